@@ -21,9 +21,11 @@ Remove the code from the comment, which silences nothing.
 "#;
 
 /// Unknown code.
-pub(crate) const I2: &str = r#"I2 unknown code
+pub(crate) const I2: &str = concat!(
+    r#"I2 unknown code
 
-Write "ignore" or "ignore-file", a space, and codes such as V6,S2. A comment that begins with `# devdry:` and goes on in another way is I2, too, with what follows the colon.
+Write "ignore" or "ignore-file", a space, and codes such as V6,S2. A comment that begins with `# devdry:` and goes on in another way is I2, too, with what "#,
+    r#"follows the colon.
 
     $ cat i2.rules
     # devdry: ignore X2
@@ -37,4 +39,5 @@ Write "ignore" or "ignore-file", a space, and codes such as V6,S2. A comment tha
     KERNEL=="sda",TAG+="disk"
     $ devdry verify --ignore comments i2-fixed.rules
     1 files checked, 1 good, 0 bad
-"#;
+"#
+);

@@ -3,9 +3,12 @@
 //! `tests/test_explain.sh` compares them with those of `docs/messages.md`.
 
 /// Case of a digit that no modalias has.
-pub(crate) const D1: &str = r#"D1 case of a digit that no modalias has
+pub(crate) const D1: &str = concat!(
+    r#"D1 case of a digit that no modalias has
 
-Write the digits in capitals for `usb:`, `pci:` and the kernel's other buses, and in small letters for `mouse:` and the like. The kernel writes the numbers of `usb:`, `pci:`, `bluetooth:`, `sdio:`, `evdev:input:` and `id-input:` in capitals, and `OUI:` has capitals, too; the rules that look up `mouse:`, `touchpad:`, `joystick:` and `camera:` take small letters, and `vmbus:` has those. Places after a `*` or a set are not looked at.
+Write the digits in capitals for `usb:`, `pci:` and the kernel's other buses, and in small letters for `mouse:` and the like. The kernel writes the numbers "#,
+    r#"of `usb:`, `pci:`, `bluetooth:`, `sdio:`, `evdev:input:` and `id-input:` in capitals, and `OUI:` has capitals, too; the rules that look up `mouse:`, "#,
+    r#"`touchpad:`, `joystick:` and `camera:` take small letters, and `vmbus:` has those. Places after a `*` or a set are not looked at.
 
     $ cat d1.hwdb
     usb:v1d6bp0002*
@@ -23,12 +26,16 @@ Write the digits in capitals for `usb:`, `pci:` and the kernel's other buses, an
     mouse:usb:v046dpc53f:name:*:
      MOUSE_DPI=800
     $ devdry update --lint d1-fixed.hwdb > /dev/null
-"#;
+"#
+);
 
 /// Match that no modalias fits.
-pub(crate) const D2: &str = r#"D2 match that no modalias fits
+pub(crate) const D2: &str = concat!(
+    r#"D2 match that no modalias fits
 
-Write the numbers with all their digits, in the order in which the modaliases of the prefix have them. These are `usb:vXXXXpXXXXdXXXX..`, `pci:vXXXXXXXXdXXXXXXXXsvXXXXXXXXsdXXXXXXXX..`, `bluetooth:vXXXXpXXXXdXXXX`, `sdio:cXXvXXXXdXXXX`, `OUI:` with twelve digits, `evdev:input:bXXXXvXXXXpXXXXeXXXX..` and the same behind `id-input:modalias:input:`. `evdev:` is followed by `input:`, `name:` or `atkbd:`.
+Write the numbers with all their digits, in the order in which the modaliases of the prefix have them. These are `usb:vXXXXpXXXXdXXXX..`, "#,
+    r#"`pci:vXXXXXXXXdXXXXXXXXsvXXXXXXXXsdXXXXXXXX..`, `bluetooth:vXXXXpXXXXdXXXX`, `sdio:cXXvXXXXdXXXX`, `OUI:` with twelve digits, "#,
+    r#"`evdev:input:bXXXXvXXXXpXXXXeXXXX..` and the same behind `id-input:modalias:input:`. `evdev:` is followed by `input:`, `name:` or `atkbd:`.
 
     $ cat d2.hwdb
     pci:v8086d1234*
@@ -39,12 +46,15 @@ Write the numbers with all their digits, in the order in which the modaliases of
     pci:v00008086d00001234*
      ID_AUTOSUSPEND=1
     $ devdry update --lint d2-fixed.hwdb > /dev/null
-"#;
+"#
+);
 
 /// End of a match is missing.
-pub(crate) const D3: &str = r#"D3 end of a match is missing
+pub(crate) const D3: &str = concat!(
+    r#"D3 end of a match is missing
 
-End the match with `*`, since modaliases go on behind it. A match is compared with the whole modalias. Those of `acpi:`, `dmi:`, `evdev:name:`, `evdev:atkbd:`, `mouse:`, `touchpad:`, `joystick:`, `camera:` and `sensor:` end in `:`, so that a match of theirs ends in `:` or `*`.
+End the match with `*`, since modaliases go on behind it. A match is compared with the whole modalias. Those of `acpi:`, `dmi:`, `evdev:name:`, "#,
+    r#"`evdev:atkbd:`, `mouse:`, `touchpad:`, `joystick:`, `camera:` and `sensor:` end in `:`, so that a match of theirs ends in `:` or `*`.
 
     $ cat d3.hwdb
     usb:v1D6Bp0002
@@ -55,12 +65,15 @@ End the match with `*`, since modaliases go on behind it. A match is compared wi
     usb:v1D6Bp0002*
      ID_AUTOSUSPEND=1
     $ devdry update --lint d3-fixed.hwdb > /dev/null
-"#;
+"#
+);
 
 /// Unknown prefix.
-pub(crate) const D4: &str = r#"D4 unknown prefix
+pub(crate) const D4: &str = concat!(
+    r#"D4 unknown prefix
 
-Begin the match with a prefix that udev's rules look up, such as `usb:` or `evdev:`. Known are the prefixes in the files of hwdb.d and those of the kernel's modaliases. If a rule of your own looks up another one, silence the message.
+Begin the match with a prefix that udev's rules look up, such as `usb:` or `evdev:`. Known are the prefixes in the files of hwdb.d and those of the kernel's "#,
+    r#"modaliases. If a rule of your own looks up another one, silence the message.
 
     $ cat d4.hwdb
     ubs:v1D6Bp0002*
@@ -71,12 +84,15 @@ Begin the match with a prefix that udev's rules look up, such as `usb:` or `evde
     usb:v1D6Bp0002*
      ID_AUTOSUSPEND=1
     $ devdry update --lint d4-fixed.hwdb > /dev/null
-"#;
+"#
+);
 
 /// Match given twice.
-pub(crate) const D5: &str = r#"D5 match given twice
+pub(crate) const D5: &str = concat!(
+    r#"D5 match given twice
 
-Put the properties of both records into one: where both have a property, the later counts. The match stands in this file already, in the same record or in another. (A match of another file is no fault: a file with a later name may override one with an earlier.)
+Put the properties of both records into one: where both have a property, the later counts. The match stands in this file already, in the same record or in "#,
+    r#"another. (A match of another file is no fault: a file with a later name may override one with an earlier.)
 
     $ cat d5.hwdb
     usb:v1D6Bp0002*
@@ -90,7 +106,8 @@ Put the properties of both records into one: where both have a property, the lat
     usb:v1D6Bp0002*
      ID_AUTOSUSPEND=0
     $ devdry update --lint d5-fixed.hwdb > /dev/null
-"#;
+"#
+);
 
 /// Property given twice.
 pub(crate) const D6: &str = r#"D6 property given twice
@@ -110,9 +127,11 @@ Remove one of the two: the later counts.
 "#;
 
 /// Blank beside the =.
-pub(crate) const D7: &str = r#"D7 blank beside the =
+pub(crate) const D7: &str = concat!(
+    r#"D7 blank beside the =
 
-Remove the blanks: they belong to the key or to the value. Here the key is `ID_VENDOR` with a blank, which nothing asks for, and the value is a blank and `Linux`.
+Remove the blanks: they belong to the key or to the value. Here the key is `ID_VENDOR` with a blank, which nothing asks for, and the value is a blank and "#,
+    r#"`Linux`.
 
     $ cat d7.hwdb
     usb:v1D6Bp0002*
@@ -123,12 +142,15 @@ Remove the blanks: they belong to the key or to the value. Here the key is `ID_V
     usb:v1D6Bp0002*
      ID_VENDOR=Linux
     $ devdry update --lint d7-fixed.hwdb > /dev/null
-"#;
+"#
+);
 
 /// Key that no program asks for.
-pub(crate) const D8: &str = r#"D8 key that no program asks for
+pub(crate) const D8: &str = concat!(
+    r#"D8 key that no program asks for
 
-Write the key in capitals, digits and `_`, and codes behind `KEYBOARD_KEY_` and `EVDEV_ABS_` in small letters. A capital letter is the first. A scan code is hexadecimal, and so is an axis, which has two digits.
+Write the key in capitals, digits and `_`, and codes behind `KEYBOARD_KEY_` and `EVDEV_ABS_` in small letters. A capital letter is the first. A scan code is "#,
+    r#"hexadecimal, and so is an axis, which has two digits.
 
     $ cat d8.hwdb
     evdev:input:b0003v05ACp0221*
@@ -145,7 +167,8 @@ Write the key in capitals, digits and `_`, and codes behind `KEYBOARD_KEY_` and 
      KEYBOARD_KEY_700a5=brightnessup
      EVDEV_ABS_00=::40
     $ devdry update --lint d8-fixed.hwdb > /dev/null
-"#;
+"#
+);
 
 /// Blank at the end of a match.
 pub(crate) const D9: &str = r#"D9 blank at the end of a match
@@ -162,9 +185,11 @@ Remove the blank, which is no part of the match. Spaces and tabs at the end of a
 "#;
 
 /// Byte order mark.
-pub(crate) const D10: &str = r#"D10 byte order mark
+pub(crate) const D10: &str = concat!(
+    r#"D10 byte order mark
 
-Save the file as UTF-8 without a byte order mark, which makes its first line a match that fits nothing. If the first line is a comment, it is a match for that reason.
+Save the file as UTF-8 without a byte order mark, which makes its first line a match that fits nothing. If the first line is a comment, it is a match for "#,
+    r#"that reason.
 
     $ printf '\357\273\277usb:v1D6Bp0002*\n ID_AUTOSUSPEND=1\n' > d10.hwdb
     $ devdry update --lint d10.hwdb > /dev/null
@@ -173,7 +198,8 @@ Save the file as UTF-8 without a byte order mark, which makes its first line a m
     usb:v1D6Bp0002*
      ID_AUTOSUSPEND=1
     $ devdry update --lint d10-fixed.hwdb > /dev/null
-"#;
+"#
+);
 
 /// Comment within a word.
 pub(crate) const D11: &str = r#"D11 comment within a word
@@ -208,9 +234,13 @@ Close the set with `]`, or write `[[]` for the bracket itself. Without a `]` the
 "#;
 
 /// Value that the property does not take.
-pub(crate) const D13: &str = r#"D13 value that the property does not take
+pub(crate) const D13: &str = concat!(
+    r#"D13 value that the property does not take
 
-Write a value of the form that the property has in the files of hwdb.d. Known properties are `1` or `0` (such as `ID_AUTOSUSPEND`; those of `ID_INPUT` may be empty), a whole number (such as `MOUSE_WHEEL_CLICK_ANGLE`), one of some words (such as `ID_INTEGRATION`), or have a form of their own: `MOUSE_DPI` is resolutions such as `400@125 *800@125`, `ACCEL_MOUNT_MATRIX` three rows of three numbers, `KEYBOARD_KEY_..` a key's name in small letters, perhaps after a `!`, and `EVDEV_ABS_..` at most five numbers with `:` between them. Properties that are not known may have any value.
+Write a value of the form that the property has in the files of hwdb.d. Known properties are `1` or `0` (such as `ID_AUTOSUSPEND`; those of `ID_INPUT` may "#,
+    r#"be empty), a whole number (such as `MOUSE_WHEEL_CLICK_ANGLE`), one of some words (such as `ID_INTEGRATION`), or have a form of their own: `MOUSE_DPI` "#,
+    r#"is resolutions such as `400@125 *800@125`, `ACCEL_MOUNT_MATRIX` three rows of three numbers, `KEYBOARD_KEY_..` a key's name in small letters, perhaps "#,
+    r#"after a `!`, and `EVDEV_ABS_..` at most five numbers with `:` between them. Properties that are not known may have any value.
 
     $ cat d13.hwdb
     mouse:usb:v046dpc53f:name:*:
@@ -237,4 +267,5 @@ Write a value of the form that the property has in the files of hwdb.d. Known pr
      EVDEV_ABS_00=0:4095
      ID_INTEGRATION=internal
     $ devdry update --lint d13-fixed.hwdb > /dev/null
-"#;
+"#
+);

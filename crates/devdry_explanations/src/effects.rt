@@ -3,9 +3,11 @@
 //! `tests/test_explain.sh` compares them with those of `docs/messages.md`.
 
 /// List replaced.
-pub(crate) const W20: &str = r#"W20 list replaced
+pub(crate) const W20: &str = concat!(
+    r#"W20 list replaced
 
-Write `+=` to add, or `:=` if no other value is wanted. After RUN, SYMLINK and TAG the operator `=` takes away what earlier rules added, also those of other files. An empty value is taken to be meant.
+Write `+=` to add, or `:=` if no other value is wanted. After RUN, SYMLINK and TAG the operator `=` takes away what earlier rules added, also those of other "#,
+    r#"files. An empty value is taken to be meant.
 
     $ cat w20.rules
     KERNEL=="sda", RUN="/bin/info"
@@ -16,12 +18,16 @@ Write `+=` to add, or `:=` if no other value is wanted. After RUN, SYMLINK and T
     KERNEL=="sda", RUN+="/bin/info"
     $ devdry verify --lint w20-fixed.rules
     1 files checked, 1 good, 0 bad
-"#;
+"#
+);
 
 /// Value assigned instead of compared.
-pub(crate) const W21: &str = r#"W21 value assigned instead of compared
+pub(crate) const W21: &str = concat!(
+    r#"W21 value assigned instead of compared
 
-Write `==` to compare the value. Reported are an attribute that the kernel lets no one write, and a property by which rules tell devices apart, such as ID_BUS, that gets a constant in a rule that changes its device: its link, name, owner, group, mode, security label or an attribute, a kernel parameter, or by a command.
+Write `==` to compare the value. Reported are an attribute that the kernel lets no one write, and a property by which rules tell devices apart, such as "#,
+    r#"ID_BUS, that gets a constant in a rule that changes its device: its link, name, owner, group, mode, security label or an attribute, a kernel "#,
+    r#"parameter, or by a command.
 
     $ cat w21.rules
     KERNEL=="sd?", ATTR{removable}="1", GROUP="plugdev"
@@ -35,12 +41,15 @@ Write `==` to compare the value. Reported are an attribute that the kernel lets 
     KERNEL=="sd?", ENV{ID_BUS}=="usb", GROUP="plugdev"
     $ devdry verify --lint w21-fixed.rules
     1 files checked, 1 good, 0 bad
-"#;
+"#
+);
 
 /// Unit wanted without a tag.
-pub(crate) const W23: &str = r#"W23 unit wanted without a tag
+pub(crate) const W23: &str = concat!(
+    r#"W23 unit wanted without a tag
 
-Add `TAG+="systemd"` to the rule. systemd sees tagged devices only, and its own rules do not tag those of this subsystem. Not reported if any rule of the file gives or compares a tag.
+Add `TAG+="systemd"` to the rule. systemd sees tagged devices only, and its own rules do not tag those of this subsystem. Not reported if any rule of the "#,
+    r#"file gives or compares a tag.
 
     $ cat w23.rules
     SUBSYSTEM=="usb", ATTR{idVendor}=="0421", ENV{SYSTEMD_WANTS}+="phone.service"
@@ -51,7 +60,8 @@ Add `TAG+="systemd"` to the rule. systemd sees tagged devices only, and its own 
     SUBSYSTEM=="usb", ATTR{idVendor}=="0421", ENV{SYSTEMD_WANTS}+="phone.service", TAG+="systemd"
     $ devdry verify --lint w23-fixed.rules
     1 files checked, 1 good, 0 bad
-"#;
+"#
+);
 
 /// Command that cannot work.
 pub(crate) const W24: &str = r#"W24 command that cannot work
@@ -70,9 +80,11 @@ Start a service by SYSTEMD_WANTS, or run `systemd-mount`. udev runs commands in 
 "#;
 
 /// Link of a network device.
-pub(crate) const W26: &str = r#"W26 link of a network device
+pub(crate) const W26: &str = concat!(
+    r#"W26 link of a network device
 
-Give the interface a NAME: it has no node, and so no links. udev makes links in `/dev` to nodes, and an interface of the network is no file there. A `.link` file can give it a name, too, and other names that `ip` knows.
+Give the interface a NAME: it has no node, and so no links. udev makes links in `/dev` to nodes, and an interface of the network is no file there. A `.link` "#,
+    r#"file can give it a name, too, and other names that `ip` knows.
 
     $ cat w26.rules
     SUBSYSTEM=="net", ATTR{address}=="02:00:00:00:00:01", SYMLINK+="lan"
@@ -83,12 +95,16 @@ Give the interface a NAME: it has no node, and so no links. udev makes links in 
     SUBSYSTEM=="net", ATTR{address}=="02:00:00:00:00:01", NAME="lan"
     $ devdry verify --lint w26-fixed.rules
     1 files checked, 1 good, 0 bad
-"#;
+"#
+);
 
 /// Tag uaccess in a late file.
-pub(crate) const W27: &str = r#"W27 tag uaccess in a late file
+pub(crate) const W27: &str = concat!(
+    r#"W27 tag uaccess in a late file
 
-Give the file a name before 73-seat-late.rules, such as 70-mine.rules. udev evaluates rules files in the order of their names, and that one gives users at the machine access to devices that have the tag by then. The first rule of the file that gives it is reported. A file with a rule that runs the builtin `uaccess` itself is not reported, nor one whose name does not end in `.rules`.
+Give the file a name before 73-seat-late.rules, such as 70-mine.rules. udev evaluates rules files in the order of their names, and that one gives users at "#,
+    r#"the machine access to devices that have the tag by then. The first rule of the file that gives it is reported. A file with a rule that runs the "#,
+    r#"builtin `uaccess` itself is not reported, nor one whose name does not end in `.rules`.
 
     $ cat 99-mine.rules
     SUBSYSTEM=="usb", ATTR{idVendor}=="0421", TAG+="uaccess"
@@ -98,4 +114,5 @@ Give the file a name before 73-seat-late.rules, such as 70-mine.rules. udev eval
     $ mv 99-mine.rules 70-mine.rules
     $ devdry verify --lint 70-mine.rules
     1 files checked, 1 good, 0 bad
-"#;
+"#
+);

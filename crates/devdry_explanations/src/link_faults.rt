@@ -54,9 +54,11 @@ Write a key that systemd.link(5) has for the section, with its capitals: a line 
 "#;
 
 /// Bad line.
-pub(crate) const L3: &str = r#"L3 bad line
+pub(crate) const L3: &str = concat!(
+    r#"L3 bad line
 
-Write KEY=VALUE below a section, [SECTION], or a comment that begins with # or ;. A line without `=` or without a key, and one before the first section, is skipped. A section without its `]`, and a line that is not UTF-8, keep the whole file from being used, with its drop-ins.
+Write KEY=VALUE below a section, [SECTION], or a comment that begins with # or ;. A line without `=` or without a key, and one before the first section, is "#,
+    r#"skipped. A section without its `]`, and a line that is not UTF-8, keep the whole file from being used, with its drop-ins.
 
     $ cat l3.link
     [Match]
@@ -78,12 +80,16 @@ Write KEY=VALUE below a section, [SECTION], or a comment that begins with # or ;
     Name=lan0
     $ devdry verify --links l3-fixed.link
     1 files checked, 1 good, 0 bad
-"#;
+"#
+);
 
 /// Bad value.
-pub(crate) const L4: &str = r#"L4 bad value
+pub(crate) const L4: &str = concat!(
+    r#"L4 bad value
 
-Write a value that systemd.link(5) has for the key: any other has no effect. The name of an interface has 1 to 15 bytes and none of `:`, `/` and `%`, and is not only digits; `OriginalName=` drops words that could not be one. Of a value with a quote that is not closed the last word is dropped. An empty value is fine for each key: it takes back the values before it.
+Write a value that systemd.link(5) has for the key: any other has no effect. The name of an interface has 1 to 15 bytes and none of `:`, `/` and `%`, and is "#,
+    r#"not only digits; `OriginalName=` drops words that could not be one. Of a value with a quote that is not closed the last word is dropped. An empty "#,
+    r#"value is fine for each key: it takes back the values before it.
 
     $ cat l4.link
     [Match]
@@ -112,12 +118,15 @@ Write a value that systemd.link(5) has for the key: any other has no effect. The
     AutoNegotiation=yes
     $ devdry verify --links l4-fixed.link
     1 files checked, 1 good, 0 bad
-"#;
+"#
+);
 
 /// File for no interface.
-pub(crate) const L5: &str = r#"L5 file for no interface
+pub(crate) const L5: &str = concat!(
+    r#"L5 file for no interface
 
-Give a key of [Match], such as OriginalName=*, by which the file is for an interface. A file without one, together with its drop-ins, is for none, though systemd.link(5) says that it is for all. Words that are dropped as bad values don't count.
+Give a key of [Match], such as OriginalName=*, by which the file is for an interface. A file without one, together with its drop-ins, is for none, though "#,
+    r#"systemd.link(5) says that it is for all. Words that are dropped as bad values don't count.
 
     $ cat l5.link
     [Match]
@@ -135,4 +144,5 @@ Give a key of [Match], such as OriginalName=*, by which the file is for an inter
     WakeOnLan=magic
     $ devdry verify --links l5-fixed.link
     1 files checked, 1 good, 0 bad
-"#;
+"#
+);

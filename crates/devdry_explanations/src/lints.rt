@@ -3,9 +3,11 @@
 //! `tests/test_explain.sh` compares them with those of `docs/messages.md`.
 
 /// Mode is not an octal number.
-pub(crate) const W1: &str = r#"W1 mode is no octal number
+pub(crate) const W1: &str = concat!(
+    r#"W1 mode is no octal number
 
-Write the mode in octal digits, such as 0660. udev ignores any other mode when the rule is run. A value with `$` or `%` is not checked, since its text is not known before that. With `--udev` blanks before the digits are passed over, as udev does.
+Write the mode in octal digits, such as 0660. udev ignores any other mode when the rule is run. A value with `$` or `%` is not checked, since its text is "#,
+    r#"not known before that. With `--udev` blanks before the digits are passed over, as udev does.
 
     $ cat w1.rules
     KERNEL=="sda", MODE="0888"
@@ -19,12 +21,15 @@ Write the mode in octal digits, such as 0660. udev ignores any other mode when t
     KERNEL=="sdb", MODE="0660"
     $ devdry verify --lint w1-fixed.rules
     1 files checked, 1 good, 0 bad
-"#;
+"#
+);
 
 /// Sign of the shell, and no shell.
-pub(crate) const W2: &str = r#"W2 sign of the shell, and no shell
+pub(crate) const W2: &str = concat!(
+    r#"W2 sign of the shell, and no shell
 
-No shell runs the command: put `/bin/sh -c` before it, or remove the sign. The program gets the sign among its arguments. Reported, outside of quotes, are `|` and `;` at the end of a word, `>` before a space, a `/`, a `&` or another `>`, and `&&`.
+No shell runs the command: put `/bin/sh -c` before it, or remove the sign. The program gets the sign among its arguments. Reported, outside of quotes, are "#,
+    r#"`|` and `;` at the end of a word, `>` before a space, a `/`, a `&` or another `>`, and `&&`.
 
     $ cat w2.rules
     KERNEL=="sda", RUN+="/bin/echo disk > /run/disk"
@@ -38,12 +43,15 @@ No shell runs the command: put `/bin/sh -c` before it, or remove the sign. The p
     KERNEL=="sdb", PROGRAM=="/bin/sh -c '/bin/true && /bin/id'", TAG+="disk"
     $ devdry verify --lint w2-fixed.rules
     1 files checked, 1 good, 0 bad
-"#;
+"#
+);
 
 /// Program without a path.
-pub(crate) const W3: &str = r#"W3 program without a path
+pub(crate) const W3: &str = concat!(
+    r#"W3 program without a path
 
-Write the full path of the program. udev looks for a program without a path only in `/usr/lib/udev`. Reported are the names of commands that are elsewhere, such as `touch`, `ln` and `systemctl`.
+Write the full path of the program. udev looks for a program without a path only in `/usr/lib/udev`. Reported are the names of commands that are elsewhere, "#,
+    r#"such as `touch`, `ln` and `systemctl`.
 
     $ cat w3.rules
     KERNEL=="sda", RUN+="touch /run/disk"
@@ -54,12 +62,16 @@ Write the full path of the program. udev looks for a program without a path only
     KERNEL=="sda", RUN+="/usr/bin/touch /run/disk"
     $ devdry verify --lint w3-fixed.rules
     1 files checked, 1 good, 0 bad
-"#;
+"#
+);
 
 /// Letter case that the kernel does not write.
-pub(crate) const W4: &str = r#"W4 letter case that the kernel does not write
+pub(crate) const W4: &str = concat!(
+    r#"W4 letter case that the kernel does not write
 
-Write lower case in these attributes, and upper case in the numbers of a modalias. The kernel writes them so, and a match is case-sensitive unless an `i` comes before its quote. The attributes are the identifiers and classes of USB, PCI and input devices. An alternative in the wrong case never fits, and is reported even beside a right one.
+Write lower case in these attributes, and upper case in the numbers of a modalias. The kernel writes them so, and a match is case-sensitive unless an `i` "#,
+    r#"comes before its quote. The attributes are the identifiers and classes of USB, PCI and input devices. An alternative in the wrong case never fits, "#,
+    r#"and is reported even beside a right one.
 
     $ cat w4.rules
     ATTRS{idVendor}=="1D6B", TAG+="hub"
@@ -73,12 +85,15 @@ Write lower case in these attributes, and upper case in the numbers of a modalia
     ENV{MODALIAS}=="usb:v1D6Bp0002*", TAG+="hub"
     $ devdry verify --lint w4-fixed.rules
     1 files checked, 1 good, 0 bad
-"#;
+"#
+);
 
 /// Attributes of different devices.
-pub(crate) const W5: &str = r#"W5 attributes of different devices
+pub(crate) const W5: &str = concat!(
+    r#"W5 attributes of different devices
 
-All ATTRS of a rule are compared with one device: use a rule for each device. In the example a USB device has the vendor, and each of its interfaces a number: no device has both.
+All ATTRS of a rule are compared with one device: use a rule for each device. In the example a USB device has the vendor, and each of its interfaces a "#,
+    r#"number: no device has both.
 
     $ cat w5.rules
     ATTRS{idVendor}=="1d6b", ATTRS{bInterfaceNumber}=="01", TAG+="second"
@@ -90,12 +105,16 @@ All ATTRS of a rule are compared with one device: use a rule for each device. In
     ENV{.OF_LINUX}=="1", ATTRS{bInterfaceNumber}=="01", TAG+="second"
     $ devdry verify --lint w5-fixed.rules
     1 files checked, 1 good, 0 bad
-"#;
+"#
+);
 
 /// Property imported further down.
-pub(crate) const W6: &str = r#"W6 property imported further down
+pub(crate) const W6: &str = concat!(
+    r#"W6 property imported further down
 
-Put the rule below the import of the property, in this file or in a later one. The matches of a rule are compared before its imports, so an import in this rule comes too late as well. The file is compared by its name with those of systemd and of multipath-tools that first import some properties, too: in `10-mine.rules` no `ID_FS_LABEL` is there yet. What other earlier files import is not known: ignore W6 there.
+Put the rule below the import of the property, in this file or in a later one. The matches of a rule are compared before its imports, so an import in this "#,
+    r#"rule comes too late as well. The file is compared by its name with those of systemd and of multipath-tools that first import some properties, too: in "#,
+    r#"`10-mine.rules` no `ID_FS_LABEL` is there yet. What other earlier files import is not known: ignore W6 there.
 
     $ cat w6.rules
     SUBSYSTEM=="block", ENV{ID_FS_TYPE}=="ext4", TAG+="disk"
@@ -108,12 +127,15 @@ Put the rule below the import of the property, in this file or in a later one. T
     SUBSYSTEM=="block", ENV{ID_FS_TYPE}=="ext4", TAG+="disk"
     $ devdry verify --lint w6-fixed.rules
     1 files checked, 1 good, 0 bad
-"#;
+"#
+);
 
 /// Value assigned that others compare.
-pub(crate) const W7: &str = r#"W7 value assigned that others compare
+pub(crate) const W7: &str = concat!(
+    r#"W7 value assigned that others compare
 
-Write `==` to compare the value, or put the assignment after the matches. The file has a match of the same property, or of the same attribute, with this value. A flag that is set before the matches of its rule is reported, too.
+Write `==` to compare the value, or put the assignment after the matches. The file has a match of the same property, or of the same attribute, with this "#,
+    r#"value. A flag that is set before the matches of its rule is reported, too.
 
     $ cat w7.rules
     ENV{ID_BUS}=="usb", TAG+="usb"
@@ -126,7 +148,8 @@ Write `==` to compare the value, or put the assignment after the matches. The fi
     ENV{ID_BUS}=="usb", KERNEL=="sd*", TAG+="disk"
     $ devdry verify --lint w7-fixed.rules
     1 files checked, 1 good, 0 bad
-"#;
+"#
+);
 
 /// Name outside net.
 pub(crate) const W8: &str = r#"W8 name outside net
@@ -177,9 +200,11 @@ Write the name in braces without quotes. The quotes would be a part of the name.
 "#;
 
 /// Regular expression in a pattern.
-pub(crate) const W11: &str = r#"W11 regular expression in a pattern
+pub(crate) const W11: &str = concat!(
+    r#"W11 regular expression in a pattern
 
-A pattern has `*`, `?`, `[..]` and `|`, and is compared with the whole value. All other characters stand for themselves, including those of regular expressions and of a shell's lists in braces.
+A pattern has `*`, `?`, `[..]` and `|`, and is compared with the whole value. All other characters stand for themselves, including those of regular "#,
+    r#"expressions and of a shell's lists in braces.
 
     $ cat w11.rules
     KERNEL=="^sd[a-z]$", TAG+="disk"
@@ -193,7 +218,8 @@ A pattern has `*`, `?`, `[..]` and `|`, and is compared with the whole value. Al
     KERNEL=="sda|sdb", TAG+="mine"
     $ devdry verify --lint w11-fixed.rules
     1 files checked, 1 good, 0 bad
-"#;
+"#
+);
 
 /// Match that always holds.
 pub(crate) const W12: &str = r#"W12 match that always holds
@@ -215,9 +241,11 @@ Remove the match, or write `?*` for any value but the empty one. A `*` also fits
 "#;
 
 /// Rule never reached.
-pub(crate) const W13: &str = r#"W13 rule never reached
+pub(crate) const W13: &str = concat!(
+    r#"W13 rule never reached
 
-Remove this rule, or give the rule above it a match. That rule has none, so it jumps for every device, and this one has no label to jump to. The word is the label that it jumps to.
+Remove this rule, or give the rule above it a match. That rule has none, so it jumps for every device, and this one has no label to jump to. The word is the "#,
+    r#"label that it jumps to.
 
     $ cat w13.rules
     GOTO="disks_end"
@@ -232,12 +260,16 @@ Remove this rule, or give the rule above it a match. That rule has none, so it j
     LABEL="disks_end"
     $ devdry verify --lint w13-fixed.rules
     1 files checked, 1 good, 0 bad
-"#;
+"#
+);
 
 /// No pattern for udev.
-pub(crate) const W14: &str = r#"W14 no pattern for udev
+pub(crate) const W14: &str = concat!(
+    r#"W14 no pattern for udev
 
-Write `*` for any tag, link or property, and the name of a file after TEST. With `--udev` the value `?*` means "not empty", as it does for udev itself. For TAG, TAGS and SYMLINK that asks that no tag or link is empty: `==` always holds, even without any, and `!=` never does. For TEST and IMPORT{parent} it reverses the operator: with `==` the rule goes on if there is no such file or property. The word is the key.
+Write `*` for any tag, link or property, and the name of a file after TEST. With `--udev` the value `?*` means "not empty", as it does for udev itself. For "#,
+    r#"TAG, TAGS and SYMLINK that asks that no tag or link is empty: `==` always holds, even without any, and `!=` never does. For TEST and IMPORT{parent} "#,
+    r#"it reverses the operator: with `==` the rule goes on if there is no such file or property. The word is the key.
 
     $ cat w14.rules
     TAG=="?*", ENV{TAGGED}="1"
@@ -251,4 +283,5 @@ Write `*` for any tag, link or property, and the name of a file after TEST. With
     TEST=="uevent", ENV{TESTED}="1"
     $ devdry verify --udev --lint w14-fixed.rules
     1 files checked, 1 good, 0 bad
-"#;
+"#
+);

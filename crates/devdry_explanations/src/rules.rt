@@ -3,9 +3,11 @@
 //! `tests/test_explain.sh` compares them with those of `docs/messages.md`.
 
 /// Bad syntax.
-pub(crate) const V1: &str = r#"V1 bad syntax
+pub(crate) const V1: &str = concat!(
+    r#"V1 bad syntax
 
-No `KEY{attribute} operator "value"` begins here: most often a quote is missing. In the example it is the one after `sd*`: the value then ends at the next quote, and the rest makes no sense.
+No `KEY{attribute} operator "value"` begins here: most often a quote is missing. In the example it is the one after `sd*`: the value then ends at the next "#,
+    r#"quote, and the rest makes no sense.
 
     $ cat v1.rules
     KERNEL=="sd*, TAG+="disk"
@@ -28,7 +30,8 @@ A word that begins with `\x0D` is the carriage return of a file with the line en
     $ tr -d '\r' < v1-ends.rules > v1-ends-fixed.rules
     $ devdry verify v1-ends-fixed.rules
     1 files checked, 1 good, 0 bad
-"#;
+"#
+);
 
 /// Unknown key.
 pub(crate) const V2: &str = r#"V2 unknown key
@@ -50,9 +53,11 @@ Keys are written in capitals, and those that look at a parent end in `S`.
 "#;
 
 /// Operator not allowed.
-pub(crate) const V3: &str = r#"V3 operator not allowed
+pub(crate) const V3: &str = concat!(
+    r#"V3 operator not allowed
 
-Use `==` or `!=` to compare, and another operator to assign: this key takes only some of them. A key that looks at the device can't be assigned; OWNER, GROUP, MODE and RUN can't be compared.
+Use `==` or `!=` to compare, and another operator to assign: this key takes only some of them. A key that looks at the device can't be assigned; OWNER, "#,
+    r#"GROUP, MODE and RUN can't be compared.
 
     $ cat v3.rules
     KERNEL="sd*", TAG+="disk"
@@ -66,12 +71,15 @@ Use `==` or `!=` to compare, and another operator to assign: this key takes only
     KERNEL=="sd*", GROUP="disk"
     $ devdry verify v3-fixed.rules
     1 files checked, 1 good, 0 bad
-"#;
+"#
+);
 
 /// Attribute missing or not allowed.
-pub(crate) const V4: &str = r#"V4 attribute missing or not allowed
+pub(crate) const V4: &str = concat!(
+    r#"V4 attribute missing or not allowed
 
-ATTR, ENV and a few more need a name in braces; most other keys take none. The few are ATTRS, SYSCTL, SECLABEL, CONST and IMPORT. RUN and TEST take only certain names. With `--udev` CONST takes only `arch` and `virt`, and TEST any mode up to 7777.
+ATTR, ENV and a few more need a name in braces; most other keys take none. The few are ATTRS, SYSCTL, SECLABEL, CONST and IMPORT. RUN and TEST take only "#,
+    r#"certain names. With `--udev` CONST takes only `arch` and `virt`, and TEST any mode up to 7777.
 
     $ cat v4.rules
     ATTR=="1", TAG+="x"
@@ -91,12 +99,16 @@ ATTR, ENV and a few more need a name in braces; most other keys take none. The f
     TEST{0444}=="/run/x", TAG+="x"
     $ devdry verify v4-fixed.rules
     1 files checked, 1 good, 0 bad
-"#;
+"#
+);
 
 /// Bad value.
-pub(crate) const V5: &str = r#"V5 bad value
+pub(crate) const V5: &str = concat!(
+    r#"V5 bad value
 
-Use one of the values that this key takes. The value is an unknown option of OPTIONS, an empty name of LABEL or GOTO, or `i"..."` where it has no meaning. `last_rule` of old versions of udev has no replacement; a jump to the end of the file at least skips the other rules of this file. With `--udev` a rule with an unknown option is kept if it has another effect, an empty name is a name like any other, and the value of `log_level` is checked, too.
+Use one of the values that this key takes. The value is an unknown option of OPTIONS, an empty name of LABEL or GOTO, or `i"..."` where it has no meaning. "#,
+    r#"`last_rule` of old versions of udev has no replacement; a jump to the end of the file at least skips the other rules of this file. With `--udev` a "#,
+    r#"rule with an unknown option is kept if it has another effect, an empty name is a name like any other, and the value of `log_level` is checked, too.
 
     $ cat v5.rules
     KERNEL=="sda", OPTIONS+="last_rule"
@@ -114,12 +126,16 @@ Use one of the values that this key takes. The value is an unknown option of OPT
     LABEL="end"
     $ devdry verify v5-fixed.rules
     1 files checked, 1 good, 0 bad
-"#;
+"#
+);
 
 /// Bad substitution.
-pub(crate) const V6: &str = r#"V6 bad substitution
+pub(crate) const V6: &str = concat!(
+    r#"V6 bad substitution
 
-Write one of udev's names or letters after `$` and `%`; the signs themselves are `$$` and `%%`. They are listed in behaviour.md. Of those that udev still accepts, write `$devnode` for `$tempnode` and `$attr{..}` for `$sysfs{..}`; for `%d`, `%D` and `%L` see differences.md. With `--udev` all of these are substitutions, and a rule with a bad one is kept.
+Write one of udev's names or letters after `$` and `%`; the signs themselves are `$$` and `%%`. They are listed in behaviour.md. Of those that udev still "#,
+    r#"accepts, write `$devnode` for `$tempnode` and `$attr{..}` for `$sysfs{..}`; for `%d`, `%D` and `%L` see differences.md. With `--udev` all of these "#,
+    r#"are substitutions, and a rule with a bad one is kept.
 
     $ cat v6.rules
     KERNEL=="sda", SYMLINK+="disk/$device"
@@ -136,7 +152,8 @@ Write one of udev's names or letters after `$` and `%`; the signs themselves are
     KERNEL=="sda", ENV{VENDOR}="$attr{vendor}"
     $ devdry verify v6-fixed.rules
     1 files checked, 1 good, 0 bad
-"#;
+"#
+);
 
 /// No later label.
 pub(crate) const V7: &str = r#"V7 no later label
@@ -182,9 +199,11 @@ A rule has one label and one jump; the later ones are dropped. With `--udev` the
 "#;
 
 /// Line too long.
-pub(crate) const V9: &str = r#"V9 line too long
+pub(crate) const V9: &str = concat!(
+    r#"V9 line too long
 
-A rule has at most 16,384 bytes, its continued lines together. With `--udev` continued lines have at most 16,383 together, and a single line that is longer is V26.
+A rule has at most 16,384 bytes, its continued lines together. With `--udev` continued lines have at most 16,383 together, and a single line that is longer "#,
+    r#"is V26.
 
     $ { printf 'KERNEL=="sda"'; for i in $(seq 1000); do printf ', ENV{NUMBER_%s}="1"' $i; done; echo; } > v9.rules
     $ devdry verify v9.rules
@@ -193,7 +212,8 @@ A rule has at most 16,384 bytes, its continued lines together. With `--udev` con
     $ for i in $(seq 1000); do echo "KERNEL==\"sda\", ENV{NUMBER_$i}=\"1\""; done > v9-fixed.rules
     $ devdry verify v9-fixed.rules
     1 files checked, 1 good, 0 bad
-"#;
+"#
+);
 
 /// Bad quote prefix.
 pub(crate) const V10: &str = r#"V10 bad quote prefix
@@ -231,9 +251,11 @@ A class of the C library depends on the locale: write its members out. With `--u
 "#;
 
 /// Line continuation at the file's end.
-pub(crate) const V12: &str = r#"V12 line continuation at the file's end
+pub(crate) const V12: &str = concat!(
+    r#"V12 line continuation at the file's end
 
-Remove the backslash, or add the line that should follow. A backslash at the end means that the rule goes on, but nothing follows: half a rule could do the wrong thing, so it is dropped. With `--udev` the number is that of the file's last line.
+Remove the backslash, or add the line that should follow. A backslash at the end means that the rule goes on, but nothing follows: half a rule could do the "#,
+    r#"wrong thing, so it is dropped. With `--udev` the number is that of the file's last line.
 
     $ cat v12.rules
     KERNEL=="sd*", \
@@ -246,4 +268,5 @@ Remove the backslash, or add the line that should follow. A backslash at the end
       TAG+="disk"
     $ devdry verify v12-fixed.rules
     1 files checked, 1 good, 0 bad
-"#;
+"#
+);

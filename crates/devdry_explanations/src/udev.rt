@@ -3,9 +3,11 @@
 //! `tests/test_explain.sh` compares them with those of `docs/messages.md`.
 
 /// Reserved property.
-pub(crate) const V13: &str = r#"V13 reserved property
+pub(crate) const V13: &str = concat!(
+    r#"V13 reserved property
 
-Only udev itself sets this property: assign another one, or use NAME or SYMLINK. Only `--udev` reports it, and the rule is dropped. The properties are ACTION, DEVLINKS, DEVNAME, DEVPATH, DEVTYPE, DRIVER, IFINDEX, MAJOR, MINOR, SEQNUM, SUBSYSTEM and TAGS.
+Only udev itself sets this property: assign another one, or use NAME or SYMLINK. Only `--udev` reports it, and the rule is dropped. The properties are "#,
+    r#"ACTION, DEVLINKS, DEVNAME, DEVPATH, DEVTYPE, DRIVER, IFINDEX, MAJOR, MINOR, SEQNUM, SUBSYSTEM and TAGS.
 
     $ cat v13.rules
     SUBSYSTEM=="net", ENV{DEVNAME}="lan0"
@@ -16,7 +18,8 @@ Only udev itself sets this property: assign another one, or use NAME or SYMLINK.
     SUBSYSTEM=="net", NAME="lan0"
     $ devdry verify --udev v13-fixed.rules
     1 files checked, 1 good, 0 bad
-"#;
+"#
+);
 
 /// Name without effect.
 pub(crate) const V14: &str = r#"V14 name without effect
@@ -35,9 +38,11 @@ Write a name other than the kernel's, or remove NAME. Only `--udev` reports it, 
 "#;
 
 /// Unknown builtin.
-pub(crate) const V15: &str = r#"V15 unknown builtin
+pub(crate) const V15: &str = concat!(
+    r#"V15 unknown builtin
 
-Begin the value with the name of one of udev's builtins, such as `usb_id`. Only `--udev` reports it, and the rule is dropped. The builtins are blkid, btrfs, hwdb, input_id, keyboard, kmod, net_driver, net_id, net_setup_link, path_id, usb_id and uaccess. The beginning of a name is enough.
+Begin the value with the name of one of udev's builtins, such as `usb_id`. Only `--udev` reports it, and the rule is dropped. The builtins are blkid, btrfs, "#,
+    r#"hwdb, input_id, keyboard, kmod, net_driver, net_id, net_setup_link, path_id, usb_id and uaccess. The beginning of a name is enough.
 
     $ cat v15.rules
     SUBSYSTEM=="usb", IMPORT{builtin}="usb-id"
@@ -48,12 +53,15 @@ Begin the value with the name of one of udev's builtins, such as `usb_id`. Only 
     SUBSYSTEM=="usb", IMPORT{builtin}="usb_id"
     $ devdry verify --udev v15-fixed.rules
     1 files checked, 1 good, 0 bad
-"#;
+"#
+);
 
 /// Matches exclude each other.
-pub(crate) const V16: &str = r#"V16 matches exclude each other
+pub(crate) const V16: &str = concat!(
+    r#"V16 matches exclude each other
 
-Write the two values as one with `|` between them, or remove one of the matches. Only `--udev` reports it, and the rule is kept. Two tags are reported, too, though a device may have both. The word is the key of the later match.
+Write the two values as one with `|` between them, or remove one of the matches. Only `--udev` reports it, and the rule is kept. Two tags are reported, too, "#,
+    r#"though a device may have both. The word is the key of the later match.
 
     $ cat v16.rules
     KERNEL=="sda", KERNEL=="sdb", TAG+="disk"
@@ -64,7 +72,8 @@ Write the two values as one with `|` between them, or remove one of the matches.
     KERNEL=="sda|sdb", TAG+="disk"
     $ devdry verify --udev v16-fixed.rules
     1 files checked, 1 good, 0 bad
-"#;
+"#
+);
 
 /// Said twice.
 pub(crate) const V17: &str = r#"V17 said twice
@@ -83,9 +92,11 @@ Remove one of the two. Only `--udev` reports it, and the rule is kept. The two n
 "#;
 
 /// Rule without effect.
-pub(crate) const V18: &str = r#"V18 rule without effect
+pub(crate) const V18: &str = concat!(
+    r#"V18 rule without effect
 
-Make the rule assign something, or remove it. Only `--udev` reports it, and the rule is dropped. Each assignment counts, and so do PROGRAM, IMPORT, LABEL and GOTO. If the rule has an option that udev does not know, V5 names that instead.
+Make the rule assign something, or remove it. Only `--udev` reports it, and the rule is dropped. Each assignment counts, and so do PROGRAM, IMPORT, LABEL "#,
+    r#"and GOTO. If the rule has an option that udev does not know, V5 names that instead.
 
     $ cat v18.rules
     KERNEL=="sda", SUBSYSTEM=="block"
@@ -96,7 +107,8 @@ Make the rule assign something, or remove it. Only `--udev` reports it, and the 
     KERNEL=="sda", SUBSYSTEM=="block", TAG+="disk"
     $ devdry verify --udev v18-fixed.rules
     1 files checked, 1 good, 0 bad
-"#;
+"#
+);
 
 /// RESULT before PROGRAM.
 pub(crate) const V19: &str = r#"V19 RESULT before PROGRAM
@@ -115,9 +127,11 @@ Put PROGRAM before RESULT. Only `--udev` reports it, and the rule is kept. PROGR
 "#;
 
 /// Empty value.
-pub(crate) const V20: &str = r#"V20 empty value
+pub(crate) const V20: &str = concat!(
+    r#"V20 empty value
 
-Write a value, or remove the key. Only `--udev` reports it, and the rule is kept. The key is TEST, PROGRAM or IMPORT, or an assignment of TAG, SECLABEL, RUN, OWNER, GROUP or MODE.
+Write a value, or remove the key. Only `--udev` reports it, and the rule is kept. The key is TEST, PROGRAM or IMPORT, or an assignment of TAG, SECLABEL, "#,
+    r#"RUN, OWNER, GROUP or MODE.
 
     $ cat v20.rules
     KERNEL=="sda", RUN+=""
@@ -128,12 +142,15 @@ Write a value, or remove the key. Only `--udev` reports it, and the rule is kept
     KERNEL=="sda", RUN+="/usr/bin/logger %k"
     $ devdry verify --udev v20-fixed.rules
     1 files checked, 1 good, 0 bad
-"#;
+"#
+);
 
 /// Bad substitution in an attribute.
-pub(crate) const V21: &str = r#"V21 bad substitution in an attribute
+pub(crate) const V21: &str = concat!(
+    r#"V21 bad substitution in an attribute
 
-In an attribute's name, too, write one of udev's names or letters after `$` and `%`. Only `--udev` reports it, and the rule is kept. The attribute is one of ATTR, ATTRS or SYSCTL.
+In an attribute's name, too, write one of udev's names or letters after `$` and `%`. Only `--udev` reports it, and the rule is kept. The attribute is one of "#,
+    r#"ATTR, ATTRS or SYSCTL.
 
     $ cat v21.rules
     ATTR{$disk/size}=="0", TAG+="empty"
@@ -144,7 +161,8 @@ In an attribute's name, too, write one of udev's names or letters after `$` and 
     ATTR{$kernel/size}=="0", TAG+="empty"
     $ devdry verify --udev v21-fixed.rules
     1 files checked, 1 good, 0 bad
-"#;
+"#
+);
 
 /// Attribute of another device.
 pub(crate) const V22: &str = r#"V22 attribute of another device
@@ -163,9 +181,11 @@ Leave `device/` and `../` out: ATTRS looks at each parent. Only `--udev` reports
 "#;
 
 /// Old name of a subsystem.
-pub(crate) const V23: &str = r#"V23 old name of a subsystem
+pub(crate) const V23: &str = concat!(
+    r#"V23 old name of a subsystem
 
-Write `subsystem`, which fits the same devices. Only `--udev` reports it, and the rule is kept. A SUBSYSTEM that is compared with `subsystem`, `bus` or `class` fits each of the three.
+Write `subsystem`, which fits the same devices. Only `--udev` reports it, and the rule is kept. A SUBSYSTEM that is compared with `subsystem`, `bus` or "#,
+    r#"`class` fits each of the three.
 
     $ cat v23.rules
     SUBSYSTEM=="bus", TAG+="x"
@@ -176,7 +196,8 @@ Write `subsystem`, which fits the same devices. Only `--udev` reports it, and th
     SUBSYSTEM=="subsystem", TAG+="x"
     $ devdry verify --udev v23-fixed.rules
     1 files checked, 1 good, 0 bad
-"#;
+"#
+);
 
 /// Operator read as =.
 pub(crate) const V24: &str = r#"V24 operator read as =
@@ -195,9 +216,12 @@ The key has no `:=` or `+=` of its own: write `=`. Only `--udev` reports it, in 
 "#;
 
 /// Unknown user or group.
-pub(crate) const V25: &str = r#"V25 unknown user or group
+pub(crate) const V25: &str = concat!(
+    r#"V25 unknown user or group
 
-Write the name of an existing user or group, or a number. Only `--udev` reports it, and the rule is kept. Names are looked up in the files that `--users` and `--groups` name, which have the form of /etc/passwd and /etc/group, and not at all where no file is given: which names exist depends on the machine that the rules are for. `udevadm verify` looks at the accounts of its own machine.
+Write the name of an existing user or group, or a number. Only `--udev` reports it, and the rule is kept. Names are looked up in the files that `--users` "#,
+    r#"and `--groups` name, which have the form of /etc/passwd and /etc/group, and not at all where no file is given: which names exist depends on the "#,
+    r#"machine that the rules are for. `udevadm verify` looks at the accounts of its own machine.
 
     $ cat group
     root:x:0:
@@ -211,12 +235,15 @@ Write the name of an existing user or group, or a number. Only `--udev` reports 
     KERNEL=="sda", GROUP="disk"
     $ devdry verify --udev --groups group v25-fixed.rules
     1 files checked, 1 good, 0 bad
-"#;
+"#
+);
 
 /// File with a line too long.
-pub(crate) const V26: &str = r#"V26 file with a line too long
+pub(crate) const V26: &str = concat!(
+    r#"V26 file with a line too long
 
-Split the line: udev reads nothing of a file with a line of 16,384 bytes or more. Only `--udev` reports it. The length is that of the line as it is in the file, a comment included, and the rules above the line are dropped as well.
+Split the line: udev reads nothing of a file with a line of 16,384 bytes or more. Only `--udev` reports it. The length is that of the line as it is in the "#,
+    r#"file, a comment included, and the rules above the line are dropped as well.
 
     $ printf '#%16383s\n' | tr ' ' - > v26.rules
     $ devdry verify --udev v26.rules
@@ -225,7 +252,8 @@ Split the line: udev reads nothing of a file with a line of 16,384 bytes or more
     $ printf '#%99s\n' | tr ' ' - > v26-fixed.rules
     $ devdry verify --udev v26-fixed.rules
     1 files checked, 1 good, 0 bad
-"#;
+"#
+);
 
 /// Comma before the first token.
 pub(crate) const S5: &str = r#"S5 comma before the first token

@@ -31,15 +31,14 @@ use text_bytes::SourceFile;
 /// If `line` names files of the kind that the command reads, those passed in are read in their order, and otherwise
 /// those whose names end in `.hwdb` or `.rules`, of each name the one of least rank, sorted by name. `verify` and
 /// `events` read rules, and `events` evaluates them, by the profile of `line`; what IMPORT{file} takes as udev does is in
-/// `found`, by the paths of files in the root. If `index` is passed in, `query` and
-/// `events` answer from it and read no file of the database. Only `events`, and `query` with the modalias `-`, look at
-/// the input.
+/// `found`, by the paths of files in the root. If `index` is passed in, `query` and `events` answer from it and read no
+/// file of the database. Only `events`, and `query` with the modalias `-`, look at the input.
 ///
-/// The status is 0; 1 if `update` is strict and there is a message, if `verify` finds a bad file, if `fmt` only lists files and
-/// there is one to list, if a block is faulty, if a line of modaliases is too long, if the files hold more than they may, or if `query` or `events` is passed an
-/// index that fails a check; 2 if a text of `why` asks for neither a rule nor a message's place, and then no input is
-/// read; 3 if the input or an output failed, or the input did not end within 2^48 reads, and only then; 4 if memory ran
-/// out. Under 3 all was written and flushed.
+/// The status is 0; 1 if `update` is strict and there is a message, if `verify` finds a bad file, if `fmt` only lists
+/// files and there is one to list, if a block is faulty, if a line of modaliases is too long, if the files hold more
+/// than they may, or if `query` or `events` is passed an index that fails a check; 2 if a text of `why` asks for neither
+/// a rule nor a message's place, and then no input is read; 3 if the input or an output failed, or the input did not end
+/// within 2^48 reads, and only then; 4 if memory ran out. Under 3 all was written and flushed.
 pub fn serve<R: Source, W: Sink, E: Sink>(
     alloc: Global,
     line: &Line<'_>,

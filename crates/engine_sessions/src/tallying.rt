@@ -36,7 +36,8 @@ pub fn answer_and_tally<A: Answering, T: Tally + Drop, R: Source, W: Sink, E: Si
         (input_outcome for_people messages.now (answer_of A.answers (asked_by profile answering.now)) text)) result
         (record { input = R.shown input.old; out = W.shown output.old; err = E.shown error.old })
         (record { input = R.shown input.new; out = W.shown output.new; err = E.shown error.new }) }
-    ensures steps { SaysAll for_people messages.now (answer_of A.answers (asked_by profile answering.now)) (λ text. T.says tally (events_of profile text)) result
+    ensures steps { SaysAll for_people messages.now (answer_of A.answers (asked_by profile answering.now))
+        (λ text. T.says tally (events_of profile text)) result
         (record { input = R.shown input.old; out = W.shown output.old; err = E.shown error.old })
         (record { input = R.shown input.new; out = W.shown output.new; err = E.shown error.new }) }
 {

@@ -24,7 +24,8 @@ pub fn faultless_files_are_used()
 /// What is reported for lines, and where: a section, a key, a value and a line as a whole.
 #[tactic(auto, unfolding(crate::specs::Faults::line_faults, crate::specs::Keys::form_of, crate::specs::Values::is_yes, crate::specs::Values::is_no, link_files::specs::Settings::section_of, link_files::specs::Lines::stripped, text_bytes::specs::Texts::split_once))]
 pub fn faults_have_their_places()
-    ensures section { is_utf8 (codes "[Matsch]") ≡ true → line_faults section.Link (line 3 (codes " [Matsch]")) ≡ of_fault 3 3 9 UnknownSection (codes "Matsch") }
+    ensures section { is_utf8 (codes "[Matsch]") ≡ true
+        → line_faults section.Link (line 3 (codes " [Matsch]")) ≡ of_fault 3 3 9 UnknownSection (codes "Matsch") }
     ensures extension { is_utf8 (codes "[X-Own]") ≡ true → line_faults section.Link (line 3 (codes "[X-Own]")) ≡ [] }
     ensures key { is_utf8 (codes "Nmae=a") ≡ true → line_faults section.Link (line 2 (codes "  Nmae=a")) ≡ of_fault 2 3 7 UnknownKey (codes "Nmae") }
     ensures other { is_utf8 (codes "Name=a") ≡ true → line_faults section.Match (line 2 (codes "Name=a")) ≡ of_fault 2 1 5 UnknownKey (codes "Name") }

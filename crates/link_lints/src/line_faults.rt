@@ -40,7 +40,8 @@ fn add_value_fault(
     line: &JoinedLine,
     value: &[u8],
 ) -> Result<(), AllocError>
-    ensures { OnOk result (found.new.items ≡ found.old.items ++ placed line.now LinkFault.BadValue (start_of line.now + (length (stripped line.now.text) - length value.now)) value.now ∷ []) }
+    ensures { OnOk result (found.new.items ≡ found.old.items
+        ++ placed line.now LinkFault.BadValue (start_of line.now + (length (stripped line.now.text) - length value.now)) value.now ∷ []) }
 {
     let before = stripped(line.text()).len().saturating_sub(value.len());
     let start = start_of(line).saturating_add(before);

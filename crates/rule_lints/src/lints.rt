@@ -3,7 +3,8 @@ ghost use Rattle.std.specs.Prelude.{◌≡◌, ◌∷◌, ◌++◌, [], IfOk, On
 ghost use Rattle.std.specs.Bool.{then_some};
 ghost use Rattle.rule_lints.specs.declared.lint.Lint.TheVariants.{NoSuchDevice};
 ghost use Rattle.rule_lints.specs.Devices.{stranger};
-ghost use Rattle.rule_lints.specs.RuleLints.{is_of_key, links_reported, lints_of_rule, names_reported, reported, reported_if_there, spot_of, spots_with, word_of};
+ghost use Rattle.rule_lints.specs.RuleLints.{is_of_key, links_reported, lints_of_rule, names_reported, reported, reported_if_there};
+ghost use Rattle.rule_lints.specs.RuleLints.{spot_of, spots_with, word_of};
 
 use crate::commands::{forbidden_command, relative_program, shell_command};
 use crate::devices::{Side, asked, is_of_net, stranger};

@@ -2,7 +2,8 @@
 ghost use Rattle.std.specs.Prelude.{◌≡◌, codes, nat_eq, option_map};
 ghost use Rattle.std.specs.List.{list_any, slice_split, starts_with};
 ghost use Rattle.text_bytes.specs.Names.{is_blank};
-ghost use Rattle.rule_lints.specs.Names.{dev_link, excludes_net, is_outside_net, is_subsystem, link_given, links_by, links_in, meets, name_given, name_in, quoted_name};
+ghost use Rattle.rule_lints.specs.Names.{dev_link, excludes_net, is_outside_net, is_subsystem, link_given, links_by, links_in, meets};
+ghost use Rattle.rule_lints.specs.Names.{name_given, name_in, quoted_name};
 
 use crate::parts::change_of;
 use crate::texts::has_byte;

@@ -20,9 +20,8 @@ operators = Equal ∷ NotEqual ∷ Add ∷ Remove ∷ AssignFinal ∷ Assign ∷
 abbrev pub run_types : List RunType
 run_types = run_of.Program ∷ run_of.Builtin ∷ []
 
--- the values of OPTIONS: those that `rule_parts` reads, whole or up to their `=`, the beginning of those about escapes, and
--- `dump`, which only udev has
+-- the values of OPTIONS: those that `rule_parts` reads, whole or up to their `=`, and the beginning of those about escapes
 abbrev pub option_names : List Text
 option_names =
     codes "link_priority=" ∷ codes "string_escape=none" ∷ codes "string_escape=replace" ∷ codes "string_escape=" ∷ codes "static_node="
-    ∷ codes "watch" ∷ codes "nowatch" ∷ codes "db_persist" ∷ codes "log_level=" ∷ codes "dump" ∷ []
+    ∷ codes "watch" ∷ codes "nowatch" ∷ codes "db_persist" ∷ codes "log_level=" ∷ []

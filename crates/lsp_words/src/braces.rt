@@ -27,7 +27,7 @@ pub(crate) const IMPORT_TYPES: [Entry; 6] = [
     entry!(
         "cmdline",
         "Imports a word of the kernel's command line as a property: its value behind `=`, or `1` if it has none.",
-        r#"IMPORT{cmdline}="nomodeset", ENV{nomodeset}=="1", GOTO="mine_end""#
+        r#"IMPORT{cmdline}="nomodeset", GOTO="mine_end""#
     ),
     entry!(
         "db",

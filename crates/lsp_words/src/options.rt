@@ -3,7 +3,7 @@
 use crate::entries::{Entry, entry};
 
 /// What is told about each value of OPTIONS.
-pub(crate) const OPTIONS: [Entry; 10] = [
+pub(crate) const OPTIONS: [Entry; 9] = [
     entry!(
         "link_priority=",
         "Sets the priority of the device's links, a whole number, 0 if nothing is set. If several devices want the same link, the one \
@@ -53,10 +53,5 @@ pub(crate) const OPTIONS: [Entry; 10] = [
         "log_level=",
         "Sets how much udev logs while it handles this device: a name such as `debug`, a number from 0 to 7, or `reset`.",
         r#"SUBSYSTEM=="net", OPTIONS+="log_level=debug""#
-    ),
-    entry!(
-        "dump",
-        "Writes all that is known about the event into the log when the rule is applied. It takes a recent version of udev.",
-        r#"KERNEL=="ttyUSB0", OPTIONS+="dump""#
     ),
 ];

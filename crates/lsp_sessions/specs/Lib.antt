@@ -3,3 +3,4 @@ pub mod Outcomes
 pub mod Runs
 pub mod Taking
 pub mod Inputs
+pub mod Examples

@@ -12,6 +12,6 @@ mod sessions;
 mod taking;
 mod turning;
 
-pub use laws::{framed_contents_are_replied_to, what_is_said_stays};
+pub use laws::{framed_contents_are_replied_to, some_sessions, what_is_said_stays};
 pub use replying::{Exit, Reply, Replying};
 pub use sessions::serve_editor;

@@ -1,13 +1,11 @@
 //! What the name of a folder in the path of a device says that it is.
 ghost use Rattle.std.specs.Prelude.{◌≡◌};
-ghost use Rattle.std.specs.Char.{is_ascii_hexdigit};
-ghost use Rattle.std.specs.List.{list_all, list_any, slice_split};
-ghost use Rattle.text_bytes.specs.Numbers.{is_decimal, is_digit};
+ghost use Rattle.std.specs.List.{list_any, slice_split};
 ghost use Rattle.builtin_chains.specs.Kinds.{are_digits, are_ports, are_two, is_at_port, is_dot, is_function, is_in_slot};
 ghost use Rattle.builtin_chains.specs.Kinds.{is_interface, is_no_number, is_numbered, is_nvme, is_on_bus, is_place, is_target, is_usb_device, kind_of};
 
 use builtin_devices::address_of;
-use text_bytes::{following, is_digit, split_once};
+use text_bytes::{following, is_decimal, is_hexadecimal, split_once};
 
 /// The kind of a device, by its name.
 #[derive(Clone, Copy)]
@@ -30,20 +28,6 @@ pub enum Kind {
     Serio,
     /// An input device, as `input7`.
     Input,
-}
-
-/// Whether a text has only decimal digits.
-fn has_digits(text: &[u8]) -> bool
-    ensures { result ≡ list_all is_digit text.now }
-{
-    text.iter().all(|byte| is_digit(*byte))
-}
-
-/// Whether a text is one digit or more, and nothing else.
-fn is_decimal(text: &[u8]) -> bool
-    ensures { result ≡ is_decimal text.now }
-{
-    !text.is_empty() && has_digits(text)
 }
 
 /// Whether a text is a number after a start.
@@ -108,13 +92,6 @@ fn is_interface(name: &[u8]) -> bool
         Some((device, numbers)) => is_at_port(device) && are_two(b'.', numbers),
         None => false,
     }
-}
-
-/// Whether a text has only hexadecimal digits.
-fn is_hexadecimal(text: &[u8]) -> bool
-    ensures { result ≡ list_all is_ascii_hexdigit text.now }
-{
-    text.iter().all(|byte| byte.is_ascii_hexdigit())
 }
 
 /// Whether a text is so many hexadecimal digits.

@@ -1,3 +1,4 @@
+pub mod AllFields
 pub mod Places
 pub mod Digits
 pub mod Addressing

@@ -4,6 +4,7 @@ use Rattle.std.specs.Prelude.{length, take, slice_index, reverse, if◌then◌el
 use Rattle.std.specs.List.{find, range_with_len}
 use Rattle.std.specs.Option.{option_or}
 use Rattle.text_bytes.specs.Names.{slash}
+use Rattle.text_bytes.specs.Texts.{is_empty}
 use Rattle.text_tables.specs.Texts.{Text, same_text}
 use Rattle.text_tables.specs.Pairs.{value_of}
 use Rattle.device_core.specs.Values.{DeviceValue, EventValue, chain}
@@ -59,3 +60,8 @@ is_of subsystem kind device = is_text subsystem device.subsystem && has_type kin
 -- the nearest device above a path that is of a subsystem and, if one is asked for, of a type
 abbrev pub above : EventValue → (subsystem : Text) → (kind : Option Text) → (path : Text) → Option DeviceValue
 above event subsystem kind path = find (is_of subsystem kind) (parents_of event path)
+
+-- a text, unless it is empty
+abbrev pub some_text : Option Text → Option Text
+some_text None = None
+some_text (Some text) = if is_empty text then None else Some text

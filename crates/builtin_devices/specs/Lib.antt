@@ -1,4 +1,5 @@
 pub mod Outcomes
+pub mod Fields
 pub mod Files
 pub mod Devices
 pub mod Numbers

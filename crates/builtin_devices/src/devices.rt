@@ -1,7 +1,7 @@
 //! The devices of a block, and what is above one.
 ghost use Rattle.std.specs.Prelude.{◌≡◌, ◌<◌, ℕ, IfOk, length, map, option_copied, option_map};
 ghost use Rattle.std.specs.List.{find};
-ghost use Rattle.builtin_devices.specs.Devices.{above, attribute, device_before, device_by, has_type, is_at, is_of, is_text, parents_of, type_of};
+ghost use Rattle.builtin_devices.specs.Devices.{above, attribute, device_before, device_by, has_type, is_at, is_of, is_text, parents_of, some_text, type_of};
 ghost use Rattle.builtin_devices.specs.Files.{described_devices};
 ghost use Rattle.builtin_devices.specs.Upward.{device_at};
 
@@ -165,4 +165,14 @@ pub fn is_of(subsystem: &[u8], kind: Option<&[u8]>, device: &Device<'_>) -> bool
     ensures { result ≡ is_of subsystem.now (option_map (λ t. t.now) kind.entry) device.now }
 {
     is_text(subsystem, device.subsystem()) && has_type(kind, device)
+}
+
+/// A text, unless it is empty.
+pub fn some_text(text: Option<&[u8]>) -> Option<&[u8]>
+    ensures { option_map (λ t. t.now) result ≡ some_text (option_map (λ t. t.now) text.entry) }
+{
+    match text {
+        Some(text) if !text.is_empty() => Some(text),
+        _ => None,
+    }
 }

@@ -4,6 +4,7 @@
 
 mod addresses;
 mod devices;
+mod fields;
 mod files;
 mod folders;
 mod numbers;
@@ -11,7 +12,8 @@ mod outcomes;
 mod upward;
 
 pub use addresses::{Address, address_of};
-pub use devices::{Devices, attribute, is_of, is_text, type_of};
+pub use devices::{Devices, attribute, is_of, is_text, some_text, type_of};
+pub use fields::marked_digits;
 pub use files::{file_at, files_below};
 pub use numbers::{Base, bytes_of, digits_in, is_below_zero, is_number, name_number, number_in};
 pub use outcomes::{BuiltinOutcome, NetNames, add_property, need_attribute, word_about};

@@ -1,4 +1,2 @@
-pub mod Seen
-pub mod AllFields
 pub mod NewNames
 pub mod Needs

@@ -1,32 +1,10 @@
 -- Addresses of hardware, and lists of them.
-use Rattle.std.specs.Prelude.{ℕ, ◌-◌, ◌==◌, ◌&&◌, not, nat_le, Bool, false, List, ◌++◌, length, map, flat_map, replicate, Option, Some, None, is_some}
-use Rattle.std.specs.Prelude.{if◌then◌else◌}
-use Rattle.std.specs.Char.{is_ascii_hexdigit, to_ascii_lowercase}
-use Rattle.std.specs.List.{list_all, list_any, slice_split}
+use Rattle.std.specs.Prelude.{ℕ, Bool, false, List, Option, Some, None, is_some}
+use Rattle.std.specs.List.{list_all, list_any}
 use Rattle.std.specs.Option.{option_map_or, option_or}
-use Rattle.text_bytes.specs.Names.{colon, digit_zero, dot, minus}
-use Rattle.text_bytes.specs.Texts.{is_empty}
+use Rattle.text_bytes.specs.Names.{colon, dot, minus}
 use Rattle.text_tables.specs.Texts.{Text, same_text}
-
--- whether a text is one hexadecimal digit or more, and at most so many
-unfoldable pub is_field : ℕ → Text → Bool
-is_field width text = not (is_empty text) && nat_le (length text) width && list_all is_ascii_hexdigit text
-
--- a field in so many lower case digits, with zeros before it
-unfoldable pub field_digits : ℕ → Text → Text
-field_digits width text = replicate (width - length text) digit_zero ++ map to_ascii_lowercase text
-
--- whether there are so many texts, each a field
-unfoldable pub are_fields : (count width : ℕ) → List Text → Bool
-are_fields count width texts = length texts == count && list_all (is_field width) texts
-
--- the digits of fields with a mark in between
-abbrev pub digits_of : (count width : ℕ) → List Text → Option Text
-digits_of count width texts = if are_fields count width texts then Some (flat_map (field_digits width) texts) else None
-
--- the same for the fields of a text with a mark in between
-unfoldable pub marked_digits : (mark count width : ℕ) → Text → Option Text
-marked_digits mark count width text = digits_of count width (slice_split (λ b. b == mark) text)
+use Rattle.builtin_devices.specs.Fields.{marked_digits}
 
 -- the digits of so many bytes: fields of one or two digits with `:` or with `-` in between, or half as many of one to
 -- four digits with `.`

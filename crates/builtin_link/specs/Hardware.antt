@@ -1,10 +1,9 @@
 -- What `Type=` is compared with.
 use Rattle.std.specs.Prelude.{ℕ, ◌^◌, ◌-◌, ◌==◌, List, [], ◌∷◌, codes, Option, Some, None, option_and_then, if◌then◌else◌}
 use Rattle.std.specs.Option.{option_or}
-use Rattle.text_bytes.specs.Texts.{is_empty}
 use Rattle.text_tables.specs.Texts.{Text}
 use Rattle.device_core.specs.Values.{EventValue}
-use Rattle.builtin_devices.specs.Devices.{attribute, type_of}
+use Rattle.builtin_devices.specs.Devices.{attribute, some_text, type_of}
 use Rattle.builtin_devices.specs.Numbers.{number_in}
 use Rattle.builtin_devices.specs.declared.numbers.Base.TheVariants.{AsWritten}
 
@@ -52,11 +51,6 @@ beside (row ∷ rows) number = if row.0 == number then Some row.1 else beside ro
 -- the name of the hardware with a number, if it is one that interfaces have today
 unfoldable pub hardware_name : ℕ → Option Text
 hardware_name number = beside hardware_names number
-
--- a text, unless it is empty
-abbrev pub some_text : Option Text → Option Text
-some_text None = None
-some_text (Some text) = if is_empty text then None else Some text
 
 -- the name of the hardware that an attribute gives by its number
 abbrev pub hardware_of : Option Text → Option Text

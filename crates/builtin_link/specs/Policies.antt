@@ -1,15 +1,15 @@
 -- The name of an interface.
-use Rattle.std.specs.Prelude.{ℕ, ◌&&◌, ◌||◌, not, Bool, false, List, [], ◌∷◌, codes, fold, map}
+use Rattle.std.specs.Prelude.{ℕ, ◌&&◌, ◌||◌, not, Bool, false, List, [], ◌∷◌, codes, fold}
 use Rattle.std.specs.Prelude.{Option, Some, None, option_and_then, if◌then◌else◌}
-use Rattle.std.specs.Char.{to_ascii_lowercase}
 use Rattle.std.specs.Option.{option_map_or, option_or}
 use Rattle.text_bytes.specs.Texts.{following, is_empty}
-use Rattle.text_tables.specs.Texts.{Text, is_among, same_text}
+use Rattle.text_tables.specs.Texts.{Text, same_text}
 use Rattle.text_tables.specs.Pairs.{Pair, value_of}
 use Rattle.device_core.specs.Values.{EventValue}
 use Rattle.builtin_devices.specs.Files.{file_at}
 use Rattle.builtin_devices.specs.Numbers.{is_number}
 use Rattle.builtin_link.specs.Numbers.{own_number}
+use Rattle.link_files.specs.Booleans.{is_no}
 use Rattle.link_files.specs.Lists.{is_of, last_of, link_section}
 use Rattle.link_files.specs.Names.{is_interface_name}
 use Rattle.link_files.specs.Words.{words_of}
@@ -76,14 +76,6 @@ with_switch held word = option_or (following (codes "net.ifnames=") word) held
 -- the value that counts: the last one
 abbrev pub last_switch : List Text → Option Text
 last_switch words = fold with_switch None words
-
--- the words that mean no
-abbrev pub no_words : List Text
-no_words = codes "0" ∷ codes "no" ∷ codes "n" ∷ codes "false" ∷ codes "f" ∷ codes "off" ∷ []
-
--- whether a word means no, in letters of any case
-unfoldable pub is_no : Text → Bool
-is_no word = is_among no_words (map to_ascii_lowercase word)
 
 -- whether policies count: the kernel's command line, if the block gives it, may say that they don't
 unfoldable pub policies_count : EventValue → Bool

@@ -2,7 +2,7 @@
 ghost use Rattle.std.specs.Prelude.{◌≡◌, IfOk, option_map};
 ghost use Rattle.builtin_link.specs.Addresses.{are_addresses, bytes_digits, has_address, hardware_digits, is_address};
 
-use crate::fields::marked_digits;
+use builtin_devices::marked_digits;
 use std::alloc::{AllocError, Global};
 use text_bytes::Bytes;
 

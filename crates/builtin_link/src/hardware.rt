@@ -1,8 +1,8 @@
 //! What `Type=` is compared with.
 ghost use Rattle.std.specs.Prelude.{◌≡◌, map, option_map};
-ghost use Rattle.builtin_link.specs.Hardware.{beside, hardware_name, hardware_of, some_text, type_text};
+ghost use Rattle.builtin_link.specs.Hardware.{beside, hardware_name, hardware_of, type_text};
 
-use builtin_devices::{Base, attribute, number_in, type_of};
+use builtin_devices::{Base, attribute, number_in, some_text, type_of};
 use device_core::Event;
 
 /// The kernel's numbers for hardware, with their names.
@@ -61,16 +61,6 @@ fn hardware_name(number: u64) -> Option<&'static [u8]>
     ensures { option_map (λ t. t.now) result ≡ hardware_name number }
 {
     beside(&HARDWARE_NAMES, number)
-}
-
-/// A text, unless it is empty.
-fn some_text(text: Option<&[u8]>) -> Option<&[u8]>
-    ensures { option_map (λ t. t.now) result ≡ some_text (option_map (λ t. t.now) text.entry) }
-{
-    match text {
-        Some(text) if !text.is_empty() => Some(text),
-        _ => None,
-    }
 }
 
 /// The name of the hardware that an attribute gives by its number.

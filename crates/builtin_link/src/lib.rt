@@ -3,7 +3,6 @@
 
 mod addresses;
 mod checks;
-mod fields;
 mod globs;
 mod hardware;
 mod keys;

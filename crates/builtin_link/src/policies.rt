@@ -1,17 +1,16 @@
 //! The name of an interface.
-ghost use Rattle.std.specs.Prelude.{◌≡◌, false, IfOk, map, option_map};
-ghost use Rattle.std.specs.Char.{to_ascii_lowercase};
+ghost use Rattle.std.specs.Prelude.{◌≡◌, false, IfOk, option_map};
 ghost use Rattle.std.specs.Option.{option_map_or};
-ghost use Rattle.text_tables.specs.Texts.{same_text};
+ghost use Rattle.link_files.specs.Booleans.{is_no};
 ghost use Rattle.link_files.specs.Words.{words_of};
 ghost use Rattle.link_files.specs.declared.words.WordKind.TheVariants.{Glob};
-ghost use Rattle.builtin_link.specs.Policies.{given_name, is_no, keeps_name, last_switch, name_by, name_by_policies, name_left, name_of, name_source, new_name};
+ghost use Rattle.builtin_link.specs.Policies.{given_name, keeps_name, last_switch, name_by, name_by_policies, name_left, name_of, name_source, new_name};
 ghost use Rattle.builtin_link.specs.Policies.{policies_count, policies_of, present_name, property_of, with_name, with_switch};
 
 use crate::numbers::own_number;
 use builtin_devices::{file_at, is_number};
 use device_core::Event;
-use link_files::{LINK, Setting, WordKind, is_interface_name, is_of, last_of, words_of};
+use link_files::{LINK, Setting, WordKind, is_interface_name, is_no, is_of, last_of, words_of};
 use std::alloc::{AllocError, Global};
 use text_bytes::{Bytes, following};
 use text_tables::CowPairs;
@@ -150,26 +149,6 @@ fn last_switch(words: &[Bytes]) -> Option<&[u8]>
         held = with_switch(held, word.as_slice());
     }
     held
-}
-
-/// Whether a word is another, in letters of any case.
-fn is_same_word(word: &[u8], other: &[u8]) -> bool
-    ensures { result ≡ same_text (map to_ascii_lowercase word.now) (map to_ascii_lowercase other.now) }
-{
-    word.eq_ignore_ascii_case(other)
-}
-
-/// Whether a word means no, in letters of any case.
-#[tactic(auto, unfolding(crate::specs::Policies::is_no))]
-fn is_no(word: &[u8]) -> bool
-    ensures { result ≡ is_no word.now }
-{
-    is_same_word(word, b"0")
-        || is_same_word(word, b"no")
-        || is_same_word(word, b"n")
-        || is_same_word(word, b"false")
-        || is_same_word(word, b"f")
-        || is_same_word(word, b"off")
 }
 
 /// Whether the kernel's command line leaves policies without effect.

@@ -2,12 +2,13 @@
 use Rattle.std.proofs.Common.{◌≡◌, ◌&&◌, List, [], Bool, true, false, Some, None, cond, refl, ap, ◌∙◌, is_some}
 use Rattle.std.specs.Prelude.{option_and_then}
 use Rattle.std.specs.Option.{option_map_or}
+use Rattle.link_files.specs.Booleans.{is_yes}
 use Rattle.text_tables.specs.Texts.{Text}
 use Rattle.text_tables.specs.Pairs.{Pair, value_of}
 use Rattle.device_core.specs.Values.{DeviceValue, EventValue}
 use Rattle.builtin_devices.specs.Devices.{type_of}
 use Rattle.builtin_devices.specs.Outcomes.{failing, succeeding}
-use Rattle.builtin_net.specs.Allowed.{attribute_name, interface, is_allowed, is_yes, number, permission, permission_of_all, permits, read}
+use Rattle.builtin_net.specs.Allowed.{attribute_name, interface, is_allowed, number, permission, permission_of_all, permits, read}
 use Rattle.builtin_net.specs.Identity.{index, is_alone, is_identified, is_link, naming}
 use Rattle.builtin_net.specs.Names.{all_names, giving}
 use Rattle.builtin_net.specs.NetId.{names_of, needs, net_id}

@@ -1,10 +1,11 @@
 -- The attributes that names of interfaces are made from, and which of them they may use.
-use Rattle.std.specs.Prelude.{ℕ, Bool, true, not, ◌&&◌, List, [], ◌∷◌, ◌++◌, codes, map, Option, None, option_and_then, is_some, if◌then◌else◌}
-use Rattle.std.specs.Char.{to_ascii_lowercase, to_ascii_uppercase}
+use Rattle.std.specs.Prelude.{ℕ, Bool, true, not, ◌&&◌, List, ◌++◌, codes, map, Option, None, option_and_then, is_some, if◌then◌else◌}
+use Rattle.std.specs.Char.{to_ascii_uppercase}
 use Rattle.std.specs.Option.{option_map_or, option_or}
-use Rattle.text_tables.specs.Texts.{Text, is_among}
+use Rattle.text_tables.specs.Texts.{Text}
 use Rattle.text_tables.specs.Pairs.{Pair, value_of}
 use Rattle.device_core.specs.Values.{DeviceValue, EventValue}
+use Rattle.link_files.specs.Booleans.{is_yes}
 use Rattle.builtin_devices.specs.Numbers.{number_in}
 use Rattle.builtin_devices.specs.declared.numbers.Base.TheVariants.{AsWritten}
 use Rattle.builtin_net.specs.Words.{most_number}
@@ -36,14 +37,6 @@ permission_of_all = codes "ID_NET_NAME_ALLOW"
 -- the property that says it for one attribute
 abbrev pub permission : Attribute → Text
 permission attribute = codes "ID_NET_NAME_ALLOW_" ++ map to_ascii_uppercase (attribute_name attribute)
-
--- the words that mean yes
-abbrev pub yes_words : List Text
-yes_words = codes "1" ∷ codes "yes" ∷ codes "y" ∷ codes "true" ∷ codes "t" ∷ codes "on" ∷ []
-
--- whether a word means yes, regardless of case
-unfoldable pub is_yes : Text → Bool
-is_yes word = is_among yes_words (map to_ascii_lowercase word)
 
 -- whether names may use an attribute, by a word for it alone, or else by one for all attributes; without either it is
 -- allowed

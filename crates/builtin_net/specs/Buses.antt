@@ -9,11 +9,10 @@ use Rattle.text_bytes.specs.Numbers.{decimal_below}
 use Rattle.text_bytes.specs.Texts.{begins_with, following, split_once}
 use Rattle.text_tables.specs.Texts.{Text, same_text}
 use Rattle.device_core.specs.Values.{DeviceValue, EventValue}
-use Rattle.builtin_devices.specs.Devices.{above, is_of, kernel_of, parents_of}
+use Rattle.builtin_devices.specs.Devices.{above, is_of, kernel_of, parents_of, some_text}
 use Rattle.builtin_devices.specs.Numbers.{name_number, number_in}
 use Rattle.builtin_devices.specs.declared.numbers.Base.TheVariants.{AsWritten, Hexadecimal}
 use Rattle.builtin_net.specs.Allowed.{read}
-use Rattle.builtin_net.specs.Port.{some_text}
 use Rattle.builtin_net.specs.Words.{is_printable, most_number}
 use Rattle.builtin_net.specs.declared.allowed.Attribute.TheVariants.{PhysPortName}
 

@@ -4,13 +4,14 @@ use Rattle.std.specs.Prelude.{option_and_then, if◌then◌else◌}
 use Rattle.std.specs.Option.{option_map_or}
 use Rattle.text_bytes.specs.Names.{colon, dot}
 use Rattle.text_bytes.specs.Texts.{split_once}
+use Rattle.link_files.specs.Booleans.{is_yes}
 use Rattle.text_tables.specs.Texts.{Text}
 use Rattle.device_core.specs.Values.{DeviceValue, EventValue}
 use Rattle.builtin_devices.specs.Devices.{kernel_of}
 use Rattle.builtin_devices.specs.Files.{file_at}
 use Rattle.builtin_devices.specs.Numbers.{bytes_of, number_in}
 use Rattle.builtin_devices.specs.declared.numbers.Base.TheVariants.{Decimal, Hexadecimal}
-use Rattle.builtin_net.specs.Allowed.{is_yes, read}
+use Rattle.builtin_net.specs.Allowed.{read}
 use Rattle.builtin_net.specs.Words.{most_number}
 use Rattle.builtin_net.specs.declared.allowed.Attribute.TheVariants.{AriEnabled}
 use Rattle.builtin_net.specs.declared.functions.Function.{Function}

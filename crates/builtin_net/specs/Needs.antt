@@ -4,12 +4,11 @@ use Rattle.std.specs.Option.{option_map_or}
 use Rattle.text_tables.specs.Texts.{Text}
 use Rattle.text_tables.specs.Pairs.{value_of}
 use Rattle.device_core.specs.Values.{DeviceValue, EventValue}
-use Rattle.builtin_devices.specs.Devices.{is_of}
+use Rattle.builtin_devices.specs.Devices.{is_of, some_text}
 use Rattle.builtin_devices.specs.Numbers.{is_number}
 use Rattle.builtin_net.specs.Allowed.{lacks, number, read}
 use Rattle.builtin_net.specs.Function.{config}
 use Rattle.builtin_net.specs.Identity.{index, is_alone}
-use Rattle.builtin_net.specs.Port.{some_text}
 use Rattle.builtin_net.specs.Prefixes.{is_ethernet, is_infiniband}
 use Rattle.builtin_net.specs.Slots.{firmware_number, is_bridge, is_described, number_by_firmware, pci_above, search_end, slots_folder}
 use Rattle.builtin_net.specs.Trees.{aliases_folder, node_link}

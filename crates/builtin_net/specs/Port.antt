@@ -2,9 +2,10 @@
 use Rattle.std.specs.Prelude.{ℕ, ◌==◌, ◌&&◌, Bool, [], ◌++◌, codes, decimal, Option, Some, None, option_map, option_and_then, if◌then◌else◌}
 use Rattle.std.specs.Bool.{then_some}
 use Rattle.std.specs.Option.{option_or}
-use Rattle.text_bytes.specs.Texts.{following, is_empty}
+use Rattle.text_bytes.specs.Texts.{following}
 use Rattle.text_tables.specs.Texts.{Text}
 use Rattle.device_core.specs.Values.{DeviceValue}
+use Rattle.builtin_devices.specs.Devices.{some_text}
 use Rattle.builtin_net.specs.Allowed.{number, read}
 use Rattle.builtin_net.specs.Prefixes.{is_infiniband}
 use Rattle.builtin_net.specs.Words.{after_digits, leading_number, is_printable}
@@ -30,11 +31,6 @@ numbered_port n = if n == 0 then [] else codes "d" ++ decimal n
 unfoldable pub port_number : Prefix → DeviceValue → (by_id : Bool) → Option ℕ
 port_number prefix interface by_id =
     option_and_then (λ n. if n == 0 && (by_id && is_infiniband prefix) then number interface DevId else Some n) (number interface DevPort)
-
--- a text, if it is not empty
-abbrev pub some_text : Option Text → Option Text
-some_text None = None
-some_text (Some text) = if is_empty text then None else Some text
 
 -- a port by its name if it has one, else by its number; none if it can't be given
 abbrev pub port_by : (name : Option Text) → (number : Option ℕ) → Option Text

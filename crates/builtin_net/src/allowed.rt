@@ -1,12 +1,11 @@
 //! The attributes that names are made from, and which of them they may use.
-ghost use Rattle.std.specs.Prelude.{◌≡◌, map, option_map};
-ghost use Rattle.std.specs.Char.{to_ascii_lowercase};
-ghost use Rattle.text_tables.specs.Texts.{same_text};
-ghost use Rattle.builtin_net.specs.Allowed.{attribute_name, interface, is_allowed, is_yes, lacks, number, permission, permits, read};
+ghost use Rattle.std.specs.Prelude.{◌≡◌, option_map};
+ghost use Rattle.builtin_net.specs.Allowed.{attribute_name, interface, is_allowed, lacks, number, permission, permits, read};
 
 use crate::words::MAX_NUMBER;
 use builtin_devices::{Base, number_in};
 use device_core::{Device, Event};
+use link_files::is_yes;
 use text_tables::{CowPairs, Pairs};
 
 /// An attribute that names are made from.
@@ -89,26 +88,6 @@ impl Attribute {
             Attribute::Modalias => b"ID_NET_NAME_ALLOW_MODALIAS",
         }
     }
-}
-
-/// Whether a word is another, regardless of case.
-fn is_same_word(word: &[u8], other: &[u8]) -> bool
-    ensures { result ≡ same_text (map to_ascii_lowercase word.now) (map to_ascii_lowercase other.now) }
-{
-    word.eq_ignore_ascii_case(other)
-}
-
-/// Whether a word means yes, regardless of case.
-#[tactic(auto, unfolding(crate::specs::Allowed::is_yes))]
-pub(crate) fn is_yes(word: &[u8]) -> bool
-    ensures { result ≡ is_yes word.now }
-{
-    is_same_word(word, b"1")
-        || is_same_word(word, b"yes")
-        || is_same_word(word, b"y")
-        || is_same_word(word, b"true")
-        || is_same_word(word, b"t")
-        || is_same_word(word, b"on")
 }
 
 /// Whether names may use an attribute, by a word for it alone, or else by one for all attributes.

@@ -10,12 +10,11 @@ ghost use Rattle.builtin_net.specs.Buses.{netdevsim_text, number_of_name, parent
 ghost use Rattle.builtin_net.specs.Buses.{with_instance, without_start, xen_text};
 
 use crate::allowed::{Attribute, read_own};
-use crate::ports::some_text;
-use crate::words::{MAX_NUMBER, is_hexadecimal, is_printable, joined, push_number, small};
-use builtin_devices::{Base, Devices, is_of, name_number, number_in};
+use crate::words::{MAX_NUMBER, is_printable, joined, push_number};
+use builtin_devices::{Base, Devices, is_of, name_number, number_in, some_text};
 use device_core::{Device, Event};
 use std::alloc::{AllocError, Global};
-use text_bytes::{begins_with, decimal_below, following, split_once};
+use text_bytes::{begins_with, decimal_below, following, is_hexadecimal, small, split_once};
 use text_links::kernel_name;
 use text_tables::CowPairs;
 

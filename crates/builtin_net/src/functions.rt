@@ -4,10 +4,11 @@ ghost use Rattle.builtin_devices.specs.Numbers.{number_in};
 ghost use Rattle.builtin_net.specs.Function.{config, domain_text, function, function_of, function_text, is_several, with_ari};
 ghost use Rattle.builtin_net.specs.Words.{most_number};
 
-use crate::allowed::{Attribute, is_yes, read};
+use crate::allowed::{Attribute, read};
 use crate::words::{MAX_NUMBER, joined, push_number};
 use builtin_devices::{Base, bytes_of, file_at, number_in};
 use device_core::{Device, Event};
+use link_files::is_yes;
 use std::alloc::{AllocError, Global};
 use text_bytes::split_once;
 use text_links::kernel_name;

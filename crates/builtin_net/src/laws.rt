@@ -2,10 +2,11 @@
 //!
 //! Each function here is empty: its contract is the law.
 ghost use Rattle.std.specs.Prelude.{◌≡◌, ◌≤◌, All, List, None, Some, [], codes, false, length, not};
+ghost use Rattle.link_files.specs.Booleans.{is_yes};
 ghost use Rattle.text_tables.specs.Texts.{Text};
 ghost use Rattle.text_tables.specs.Pairs.{Pair, value_of};
 ghost use Rattle.device_core.specs.Values.{EventValue};
-ghost use Rattle.builtin_net.specs.Allowed.{interface, is_yes, permission, permission_of_all};
+ghost use Rattle.builtin_net.specs.Allowed.{interface, permission, permission_of_all};
 ghost use Rattle.builtin_net.specs.Identity.{is_alone};
 ghost use Rattle.builtin_net.specs.NetId.{net_id};
 ghost use Rattle.builtin_net.specs.declared.allowed.Attribute.TheVariants.{Iflink};

@@ -1,11 +1,12 @@
 //! What distinguishes the ports of one function.
 ghost use Rattle.std.specs.Prelude.{◌≡◌, IfOk, option_map};
 ghost use Rattle.builtin_net.specs.Allowed.{interface};
-ghost use Rattle.builtin_net.specs.Port.{named_port, port_number, port_text, represented, some_text};
+ghost use Rattle.builtin_net.specs.Port.{named_port, port_number, port_text, represented};
 
 use crate::allowed::{Attribute, own_number, read_own};
 use crate::prefixes::Prefix;
 use crate::words::{after_digits, is_printable, joined, leading_number, push_number};
+use builtin_devices::some_text;
 use device_core::Event;
 use std::alloc::{AllocError, Global};
 use text_bytes::following;
@@ -47,16 +48,6 @@ fn port_number(prefix: Prefix, event: &Event<'_>, env: &CowPairs<'_>, by_id: boo
         return own_number(event, env, Attribute::DevId);
     }
     Some(number)
-}
-
-/// A text that is not empty.
-pub(crate) fn some_text(text: Option<&[u8]>) -> Option<&[u8]>
-    ensures { option_map (λ t. t.now) result ≡ some_text (option_map (λ t. t.now) text.entry) }
-{
-    match text {
-        Some(text) if !text.is_empty() => Some(text),
-        _ => None,
-    }
 }
 
 /// What names of an interface say about its port; `None` if no name can be given. The number of the port of

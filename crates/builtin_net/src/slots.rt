@@ -16,11 +16,11 @@ ghost use Rattle.builtin_net.specs.Words.{first_given};
 use crate::allowed::{Attribute, lacks, number, read};
 use crate::functions::is_several;
 use crate::needs::need;
-use crate::words::{MAX_NUMBER, is_hexadecimal, positive};
+use crate::words::{MAX_NUMBER, positive};
 use builtin_devices::{Base, Devices, file_at, files_below, is_number, is_of, number_in};
 use device_core::{Device, Event};
 use std::alloc::{AllocError, Global};
-use text_bytes::split_once;
+use text_bytes::{is_hexadecimal, split_once};
 use text_links::kernel_name;
 use text_tables::OwnedTexts;
 

@@ -1,7 +1,5 @@
 //! Virtual functions, whose names are those of the physical one.
 ghost use Rattle.std.specs.Prelude.{◌≡◌, IfOk, option_map};
-ghost use Rattle.std.specs.List.{list_all};
-ghost use Rattle.text_bytes.specs.Numbers.{is_decimal, is_digit};
 ghost use Rattle.builtin_net.specs.Virtual.{named_function, number_leading, physical_path, virtual_number};
 
 use crate::words::joined;
@@ -9,7 +7,7 @@ use builtin_devices::{Devices, file_at, files_below};
 use device_core::{Device, Event};
 use std::alloc::{AllocError, Global};
 use std::marker::Model;
-use text_bytes::{following, is_digit};
+use text_bytes::{following, is_decimal};
 
 /// A function by which an interface is named.
 #[derive(Drop)]
@@ -38,20 +36,6 @@ fn physical_path<'a>(
 {
     let link = joined(alloc, pci.path(), b"/physfn")?;
     Ok(file_at(event, &link))
-}
-
-/// Whether a text has only decimal digits.
-fn has_digits(text: &[u8]) -> bool
-    ensures { result ≡ list_all is_digit text.now }
-{
-    text.iter().all(|byte| is_digit(*byte))
-}
-
-/// Whether a text is one decimal digit or more.
-fn is_decimal(text: &[u8]) -> bool
-    ensures { result ≡ is_decimal text.now }
-{
-    !text.is_empty() && has_digits(text)
 }
 
 /// The number of a virtual function, if a link of its physical one leads to it.

@@ -1,15 +1,13 @@
 //! Parts of texts that several names need.
 ghost use Rattle.std.specs.Prelude.{◌≡◌, ◌++◌, ◌<◌, ◌≤◌, ◌^◌, decimal, length, map, option_map, IfOk, IfSome, OnOk};
-ghost use Rattle.std.specs.Char.{is_ascii_hexdigit, to_ascii_lowercase, to_ascii_uppercase};
-ghost use Rattle.std.specs.List.{list_all, list_any, prefix_len};
-ghost use Rattle.std.specs.Str.{is_utf8};
-ghost use Rattle.text_bytes.specs.Escapes.{is_control};
+ghost use Rattle.std.specs.Char.{to_ascii_uppercase};
+ghost use Rattle.std.specs.List.{prefix_len};
 ghost use Rattle.text_bytes.specs.Numbers.{is_digit};
 ghost use Rattle.builtin_net.specs.Words.{after_digits, is_printable, leading_number, positive};
 
 use itoa::Buffer;
 use std::alloc::{AllocError, Global};
-use text_bytes::{decimal_below, is_digit};
+use text_bytes::{decimal_below, has_control, is_digit, is_utf8};
 
 /// The greatest number of 32 bits.
 pub(crate) const MAX_NUMBER: u64 = u32::MAX as u64;
@@ -40,29 +38,6 @@ pub(crate) fn leading_number(text: &[u8]) -> Option<u64>
     decimal_below(1 << 32, digits)
 }
 
-/// Whether a text has a control character of ASCII.
-fn has_control(text: &[u8]) -> bool
-    ensures { result ≡ list_any is_control text.now }
-{
-    text.iter().any(|byte| *byte < 0x20 || *byte == 0x7F)
-}
-
-/// Whether a text has only hexadecimal digits.
-pub(crate) fn is_hexadecimal(text: &[u8]) -> bool
-    ensures { result ≡ list_all is_ascii_hexdigit text.now }
-{
-    text.iter().all(|byte| byte.is_ascii_hexdigit())
-}
-
-/// A text in lower case letters.
-pub(crate) fn small(alloc: Global, text: &[u8]) -> Result<Vec<u8>, AllocError>
-    ensures { IfOk result (λ letters. letters.items ≡ map to_ascii_lowercase text.now) }
-{
-    text.iter()
-        .map(|byte| byte.to_ascii_lowercase())
-        .collect(alloc)
-}
-
 /// A text in capital letters.
 pub(crate) fn large(alloc: Global, text: &[u8]) -> Result<Vec<u8>, AllocError>
     ensures { IfOk result (λ letters. letters.items ≡ map to_ascii_uppercase text.now) }
@@ -70,13 +45,6 @@ pub(crate) fn large(alloc: Global, text: &[u8]) -> Result<Vec<u8>, AllocError>
     text.iter()
         .map(|byte| byte.to_ascii_uppercase())
         .collect(alloc)
-}
-
-/// Whether a text is UTF-8.
-fn is_utf8(text: &[u8]) -> bool
-    ensures { result ≡ is_utf8 text.now }
-{
-    str::from_utf8(text).is_ok()
 }
 
 /// Whether a text may be part of a name: UTF-8 without control characters.

@@ -1,7 +1,6 @@
 //! The devices that the way up passes, and what it asks of them.
-ghost use Rattle.std.specs.Prelude.{◌≡◌, ◌∷◌, ◌≤◌, ◌==◌, IfOk, Some, length, not, option_map};
-ghost use Rattle.std.specs.List.{prefix_len, suffix_len};
-ghost use Rattle.text_bytes.specs.Names.{slash};
+ghost use Rattle.std.specs.Prelude.{◌≡◌, ◌∷◌, ◌≤◌, IfOk, Some, length, not, option_map};
+ghost use Rattle.std.specs.List.{prefix_len};
 ghost use Rattle.text_links.specs.Kernels.{kernel_name, last_component};
 ghost use Rattle.builtin_devices.specs.Devices.{attribute, is_of};
 ghost use Rattle.builtin_path.specs.Members.{attribute_at, begins, class_attribute, class_attribute_at, folder, from_first, is_in, row};
@@ -12,6 +11,7 @@ use device_core::Device;
 use std::alloc::{AllocError, Global};
 use std::marker::Model;
 use text_bytes::Bytes;
+use text_links::last_component_len;
 
 /// A device of the way.
 #[derive(Drop)]
@@ -26,14 +26,6 @@ impl<'d> Model for Member<'d> {
     ghost Value = { DeviceValue };
 
     ghost view = { λ m. m.device.now };
-}
-
-/// How many bytes follow the last slash of a path.
-fn last_component_len(path: &[u8]) -> usize
-    ensures value { result ≡ suffix_len (λ b. not (b == slash)) path.now }
-    ensures within { result ≤ length path.now }
-{
-    path.iter().rev().take_while(|byte| **byte != b'/').count()
 }
 
 /// What follows the last slash of a path.

@@ -8,12 +8,12 @@ ghost use Rattle.builtin_path.specs.Scsi.{numbered_host_stop, other_by, other_st
 use crate::members::{Member, below_first, folder};
 use crate::scsi::place_of;
 use crate::stops::{Next, Stop, needed};
-use crate::texts::{after_first, concatenated, is_among};
+use crate::texts::{after_first, concatenated};
 use builtin_devices::{Address, Base, number_in};
 use itoa::Buffer;
 use std::alloc::{AllocError, Global};
 use text_bytes::{Bytes, split_once};
-use text_tables::OwnedTexts;
+use text_tables::{OwnedTexts, is_among};
 
 /// The name of a folder `host*` in which an attribute is.
 fn host_name(name: &[u8]) -> Option<&[u8]>

@@ -12,14 +12,14 @@ use crate::members::{Member, row};
 use crate::nvme::{nvme_stop, ways_stop};
 use crate::scsi::scsi_stop;
 use crate::stops::{Next, Stop};
-use crate::texts::{concatenated, is_among, leading_digits};
+use crate::texts::{concatenated, leading_digits};
 use crate::usb::usb_stop;
 use builtin_devices::{Devices, name_number};
 use itoa::Buffer;
 use std::alloc::{AllocError, Global};
 use text_bytes::{Bytes, decimal_below, following};
 use text_links::kernel_name;
-use text_tables::OwnedTexts;
+use text_tables::{OwnedTexts, is_among};
 
 /// How devices of a subsystem add to a path.
 #[derive(Clone, Copy)]

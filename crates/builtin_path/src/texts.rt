@@ -3,7 +3,6 @@ ghost use Rattle.std.specs.Prelude.{◌≡◌, ◌<◌, ◌≤◌, IfOk, IfSome,
 ghost use Rattle.std.specs.List.{concat, join_with_byte, prefix_len};
 ghost use Rattle.text_bytes.specs.Names.{minus};
 ghost use Rattle.text_bytes.specs.Numbers.{is_digit};
-ghost use Rattle.text_tables.specs.Texts.{is_among};
 ghost use Rattle.builtin_path.specs.Texts.{contains, first_place, is_at};
 
 use std::alloc::{AllocError, Global};
@@ -53,18 +52,6 @@ pub(crate) fn contains(wanted: &[u8], text: &[u8]) -> bool
     ensures { result ≡ contains wanted.now text.now }
 {
     (0..text.len()).any(|place| is_at(wanted, text, place))
-}
-
-/// Whether a text is one of these.
-pub(crate) fn is_among(texts: &[&[u8]], text: &[u8]) -> bool
-    ensures { result ≡ is_among (map (λ t. t.now) texts.now) text.now }
-{
-    for other in texts {
-        if text == *other {
-            return true;
-        }
-    }
-    false
 }
 
 /// Texts one after another.

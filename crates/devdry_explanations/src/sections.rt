@@ -2,6 +2,7 @@
 ghost use Rattle.std.specs.Prelude.{◌≡◌, IsSomeAnd, MatchOption, None};
 ghost use Rattle.devdry_explanations.specs.Codes.{remark_with};
 ghost use Rattle.devdry_explanations.specs.Sections.{HasAdvice, HasHeading, IsSectionOn};
+ghost use Rattle.devdry_explanations.specs.Texts.{section_of, section_of_database_lint, section_of_kind, section_of_link_fault, section_of_lint};
 ghost use Rattle.engine_formats.specs.declared.remark.Remark.TheVariants.{Message};
 ghost use Rattle.engine_formats.specs.declared.remark.Remark.TheVariants as about;
 
@@ -17,6 +18,7 @@ use rule_lints::Lint;
 
 /// The section on a kind of message.
 fn section_on_kind(kind: MessageKind) -> &'static str
+    ensures text { result.now ≡ section_of_kind kind }
     ensures heading { HasHeading (Message kind) result.now }
     ensures advice { HasAdvice (Message kind) result.now }
 {
@@ -64,6 +66,7 @@ fn section_on_kind(kind: MessageKind) -> &'static str
 
 /// The section on a lint.
 fn section_on_lint(lint: Lint) -> &'static str
+    ensures text { result.now ≡ section_of_lint lint }
     ensures heading { HasHeading (about.Lint lint) result.now }
     ensures advice { HasAdvice (about.Lint lint) result.now }
 {
@@ -100,6 +103,7 @@ fn section_on_lint(lint: Lint) -> &'static str
 
 /// The section on a lint of a database.
 fn section_on_database_lint(lint: DatabaseLint) -> &'static str
+    ensures text { result.now ≡ section_of_database_lint lint }
     ensures heading { HasHeading (about.DatabaseLint lint) result.now }
     ensures advice { HasAdvice (about.DatabaseLint lint) result.now }
 {
@@ -122,6 +126,7 @@ fn section_on_database_lint(lint: DatabaseLint) -> &'static str
 
 /// The section on a fault of a `.link` file.
 fn section_on_link_fault(fault: LinkFault) -> &'static str
+    ensures text { result.now ≡ section_of_link_fault fault }
     ensures heading { HasHeading (about.LinkFault fault) result.now }
     ensures advice { HasAdvice (about.LinkFault fault) result.now }
 {
@@ -137,6 +142,7 @@ fn section_on_link_fault(fault: LinkFault) -> &'static str
 /// The section on a remark. Its first line is the heading of the remark, and after an empty line come what it
 /// means, a file that causes it, and the corrected file.
 pub fn section_on(remark: Remark) -> &'static str
+    ensures text { result.now ≡ section_of remark }
     ensures heading { HasHeading remark result.now }
     ensures advice { HasAdvice remark result.now }
 {

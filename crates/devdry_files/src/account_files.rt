@@ -63,8 +63,8 @@ fn read_named<'a, D: Disk>(
     Ok(Some(file))
 }
 
-/// The path of a file of users or groups below a root.
-fn path_below(alloc: Global, root: &str, path: &str) -> Result<String, AllocError>
+/// A path below a root.
+pub fn path_below(alloc: Global, root: &str, path: &str) -> Result<String, AllocError>
     ensures { IfOk result (λ whole. string_bytes whole ≡ root.now ++ path.now) }
 {
     let mut whole = String::from_str(alloc, root)?;

@@ -68,7 +68,7 @@ impl<T: Drop> From<AllocFailed<T>> for ReadFault {
 }
 
 /// The fault of a disk at a path. It takes over the path, so that reporting it needs no memory.
-pub(crate) fn fault_at(path: String, fault: DiskFault) -> ReadFault
+pub fn fault_at(path: String, fault: DiskFault) -> ReadFault
     ensures { result ≡ fault_of path fault }
 {
     match fault {

@@ -21,11 +21,11 @@ mod rooted_disk;
 mod step;
 mod walking;
 
-pub use account_files::read_account_files;
+pub use account_files::{path_below, read_account_files};
 pub use additions::{kind_added, name_at};
 pub use asking::wanted;
 pub use disk::{Disk, DiskFault, Entry};
-pub use fault::ReadFault;
+pub use fault::{ReadFault, fault_at};
 pub use listing::counts;
 pub use look::Look;
 pub use memory_disk::{DiskNode, MemoryDisk, MemoryEntry, MemoryPlace};

@@ -1,5 +1,5 @@
 //! Looks at the paths that rules name, and reads the files there.
-ghost use Rattle.std.specs.Prelude.{◌≡◌, ◌++◌, ◌∷◌, [], ℕ, IfOk, List, OnOk, string_bytes};
+ghost use Rattle.std.specs.Prelude.{◌≡◌, ◌∷◌, [], ℕ, IfOk, List, OnOk};
 ghost use Rattle.devdry_files.specs.Inside.{MayInside};
 ghost use Rattle.builtin_knowledge.specs.Knowledge.{FilesFound};
 ghost use Rattle.devdry_imports.specs.Naming.{paths_named};
@@ -7,7 +7,7 @@ ghost use Rattle.devdry_imports.specs.Reading.{AreFound, IsFound, IsFoundBelow, 
 
 use crate::naming::paths_named;
 use builtin_knowledge::{RootFile, RootFiles};
-use devdry_files::{Disk, DiskFault, Look, RootedDisk};
+use devdry_files::{Disk, DiskFault, Look, RootedDisk, path_below};
 use std::alloc::{AllocError, Global};
 use text_bytes::{Bytes, SourceFile};
 
@@ -46,15 +46,6 @@ fn found_at<D: Disk>(alloc: Global, disk: &D, path: &str) -> Result<Option<RootF
 {
     let look = disk.look(alloc, path)?;
     found_by(alloc, disk, path, look)
-}
-
-/// A path below a root.
-fn path_below(alloc: Global, root: &str, path: &str) -> Result<String, AllocError>
-    ensures { IfOk result (λ whole. string_bytes whole ≡ root.now ++ path.now) }
-{
-    let mut whole = String::from_str(alloc, root)?;
-    whole.push_str(path)?;
-    Ok(whole)
 }
 
 /// What is found at a path below a root.

@@ -1,2 +1,1 @@
 pub mod NoBreak
-pub mod Seen

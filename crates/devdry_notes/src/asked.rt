@@ -1,11 +1,10 @@
 //! What a line asks to be told.
-ghost use Rattle.std.specs.List.{list_any};
-ghost use Rattle.std.specs.Prelude.{◌≡◌, map};
-ghost use Rattle.text_tables.specs.Texts.{is_among, same_text};
+ghost use Rattle.std.specs.Prelude.{◌≡◌};
 ghost use Rattle.devdry_notes.specs.Asked.{asks_folder, asks_kinds, asks_more, asks_root, asks_rules, asks_unseen, checks, is_as_udev, is_verify};
 
 use engine_ends::{Line, Verb};
 use text_bytes::Profile;
+use text_tables::is_name_among;
 
 /// Whether rules are read as udev itself reads them.
 fn is_as_udev(profile: Profile) -> bool
@@ -54,27 +53,11 @@ pub(crate) fn asks_kinds(line: &Line<'_>) -> bool
         || (checks(line.verb) && line.format.is_for_people())
 }
 
-/// Whether a path is that of one of these files.
-fn is_named(paths: &[&str], path: &str) -> bool
-    ensures { result ≡ list_any (λ f. same_text path.now f.now) paths.now }
-{
-    paths
-        .iter()
-        .any(|named| path.as_bytes() == named.as_bytes())
-}
-
-/// Whether a path is that of one of the files that a line names.
-fn is_among(paths: &[&str], path: &str) -> bool
-    ensures { result ≡ is_among (map (λ f. f.now) paths.now) path.now }
-{
-    is_named(paths, path)
-}
-
 /// Whether a line asks if the file that it names by this path is a folder: messages are for people.
 pub fn asks_folder(line: &Line<'_>, path: &str) -> bool
     ensures { result ≡ asks_folder line.now path.now }
 {
-    line.format.is_for_people() && is_among(&line.files, path)
+    line.format.is_for_people() && is_name_among(&line.files, path)
 }
 
 /// Whether a line asks about rules that belong together.

@@ -1,20 +1,10 @@
--- A test for UTF-8 by the reading of a text.
-use Rattle.std.proofs.Common.{◌≡◌, ◌∙◌, ◌&&◌, ℕ, Bool, true, false, List, Result, Ok, Err, MatchResult, ap, is_ok, not, refl, sym}
+-- A text that can't be read.
+use Rattle.std.proofs.Common.{◌≡◌, ◌∙◌, ◌&&◌, ℕ, Bool, true, false, List, ap, not, refl}
 use Rattle.std.specs.List.{list_any}
-use Rattle.std.specs.Str.{IsUtf8, is_utf8}
-use Rattle.std.proofs.lemmas.Str.{IsUtf8-from_is_utf8, is_utf8-from_IsUtf8}
+use Rattle.std.specs.Str.{IsUtf8}
 use Rattle.text_bytes.specs.Escapes.{is_control}
+use Rattle.text_bytes.proofs.Utf8.{not_utf8}
 use Rattle.devdry_options.specs.Words.{is_option, is_word}
-
-not_true : (b : Bool) → ((b ≡ true) → ⊥) → false ≡ b
-not_true true h = absurd (h refl)
-not_true false h = refl
-
--- what reading a text has shown about it
-pub read_is : {X E : Type 0} (P : X → Type 0) (Q : E → Type 0) (r : Result X E) (text : List ℕ)
-    → MatchResult r (λ x. P x × IsUtf8 text) (λ e. ¬ (IsUtf8 text) × Q e) → is_ok r ≡ is_utf8 text
-read_is P Q (Ok x) text h = sym (is_utf8-from_IsUtf8 text h.1)
-read_is P Q (Err e) text h = not_true (is_utf8 text) (λ is. h.0 (IsUtf8-from_is_utf8 text is))
 
 and_false : (b : Bool) → (b && false) ≡ false
 and_false true = refl
@@ -23,6 +13,4 @@ and_false false = refl
 -- a text that can't be read is no word
 pub no_word : (text : List ℕ) → ¬ (IsUtf8 text) → is_word text ≡ false
 unfolding is_word
-no_word text h =
-    ap (λ b. is_option text && (b && not (list_any is_control text))) (sym (not_true (is_utf8 text) (λ is. h (IsUtf8-from_is_utf8 text is))))
-    ∙ and_false (is_option text)
+no_word text h = ap (λ b. is_option text && (b && not (list_any is_control text))) (not_utf8 text h) ∙ and_false (is_option text)

@@ -12,4 +12,4 @@ mod words;
 pub use files::{OptionsFault, read_options};
 pub use laws::{lines_are_words, lines_that_are_bad, options_have_their_values};
 pub use names::{flag_names, repeated_names, valued_names};
-pub use words::{has_value_of, is_flag};
+pub use words::{has_value_of, is_flag, is_word};

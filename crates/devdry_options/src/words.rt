@@ -1,12 +1,10 @@
 //! The words that a file of options may have.
 ghost use Rattle.std.specs.List.{list_any};
 ghost use Rattle.std.specs.Prelude.{◌≡◌, map};
-ghost use Rattle.std.specs.Str.{is_utf8};
-ghost use Rattle.text_bytes.specs.Escapes.{is_control};
 ghost use Rattle.devdry_options.specs.Words.{has_value_of, is_flag, is_name_with_value, is_option, is_word};
 
 use crate::names::{flag_names, repeated_names, valued_names};
-use text_bytes::{following, split_once};
+use text_bytes::{following, has_control, is_utf8, split_once};
 
 /// Whether a word is the flag of this name: `--NAME`.
 pub fn is_flag(word: &[u8], name: &str) -> bool
@@ -75,23 +73,9 @@ fn is_option(word: &[u8]) -> bool
         || has_value_of_one(word, repeated_names())
 }
 
-/// Whether a text is UTF-8.
-fn is_utf8(text: &[u8]) -> bool
-    ensures { result ≡ is_utf8 text.now }
-{
-    str::from_utf8(text).is_ok()
-}
-
-/// Whether a text has a control character of ASCII.
-fn has_control(text: &[u8]) -> bool
-    ensures { result ≡ list_any is_control text.now }
-{
-    text.iter().any(|byte| *byte < 0x20 || *byte == 0x7F)
-}
-
 /// Whether a file of options may have a word: it is an option, in UTF-8 and without control characters.
 #[tactic(auto, unfolding(crate::specs::Words::is_word))]
-pub(crate) fn is_word(word: &[u8]) -> bool
+pub fn is_word(word: &[u8]) -> bool
     ensures { result ≡ is_word word.now }
 {
     is_option(word) && is_utf8(word) && !has_control(word)

@@ -20,7 +20,7 @@ use Rattle.engine_ends.specs.declared.line.Format.TheVariants.{Plain, Gcc, Githu
 use Rattle.devdry_words.specs.declared.refusals.Refusal.{Refusal}
 use Rattle.devdry_words.specs.declared.refusals.Refusal.TheVariants.{TwoDatabases, LinksAsRules, AddedToNamed, AddedToRules, AddedToIndex, TwoAnswers, LinesBesideJson, InputTwice, UnreadInput, EmptyRoot, EmptySide, NoUdev, UnknownFormat, NoAnswerFormat, UnknownColor, UnknownPart, NotRules, NotFile}
 use Rattle.engine_ends.specs.declared.line.Verb.TheVariants.{Update, Verify, Events}
-use Rattle.devdry_words.specs.Lines.{asks_every, class_codes, codes_with, color_name, color_named, color_of, files_of, format_name, format_named, format_of, is_set_or_every, profile_of}
+use Rattle.devdry_words.specs.Lines.{asks_every, color_name, color_named, color_of, files_of, format_name, format_named, format_of, is_set_or_every, profile_of}
 use Rattle.text_bytes.specs.Texts.{split_once}
 use Rattle.text_bytes.specs.declared.profile.Profile.{Profile}
 use Rattle.text_bytes.specs.declared.profile.Profile.TheVariants.{Manual, Udev}
@@ -30,7 +30,8 @@ use Rattle.devdry_words.specs.Refusals.{known_codes, listed, refusal_of, unknown
 use Rattle.devdry_options.specs.Names.{flag_names, repeated_names, valued_names}
 use Rattle.devdry_words.specs.Options.{options_in, with_options}
 use Rattle.devdry_words.specs.Requests.{added_of, side_files, side_root}
-use Rattle.devdry_words.specs.Values.{cut_at_commas, is_set, texts_of, text_of}
+use Rattle.engine_formats.specs.Ignored.{codes_with, cut_at_commas}
+use Rattle.devdry_words.specs.Values.{is_set, texts_of, text_of}
 
 abbrev query_words : List Text
 query_words = codes "query" ∷ codes "-r" ∷ codes "/mnt" ∷ codes "usb:v1" ∷ codes "--sources" ∷ codes "a.hwdb" ∷ codes "--" ∷ codes "-b" ∷ []

@@ -1,7 +1,6 @@
 -- The line that the matches of a subcommand mean.
-use Rattle.std.specs.Prelude.{◌≡◌, ◌∷◌, ◌&&◌, ◌||◌, Bool, true, false, IfSome, if◌then◌else◌, List, [], Option, Some, None, filter, find, flat_map}
-use Rattle.std.specs.Prelude.{map, nat_eq, not, unwrap_or, codes}
-use Rattle.std.specs.List.{starts_with}
+use Rattle.std.specs.Prelude.{◌≡◌, ◌∷◌, ◌&&◌, ◌||◌, Bool, true, false, IfSome, if◌then◌else◌, List, [], Option, Some, None, find}
+use Rattle.std.specs.Prelude.{map, not, unwrap_or, codes}
 use Rattle.std.specs.Option.{option_map, option_map_or}
 use Rattle.std.specs.Str.{bytes_eq}
 use Rattle.clap.specs.Words.{Row, Text, first_of}
@@ -13,11 +12,10 @@ use Rattle.engine_ends.specs.declared.line.Format.TheVariants.{Plain, Gcc, Githu
 use Rattle.engine_ends.specs.declared.line.Line.{Line}
 use Rattle.engine_ends.specs.declared.line.Verb.{Verb}
 use Rattle.engine_ends.specs.declared.line.Verb.TheVariants.{Update, Query, Verify, Events, Mend}
-use Rattle.engine_formats.specs.Codes.{remarks}
-use Rattle.engine_formats.specs.Remarks.{code_of}
+use Rattle.engine_formats.specs.Ignored.{ignored_codes}
 use Rattle.text_bytes.specs.declared.profile.Profile.{Profile}
 use Rattle.text_bytes.specs.declared.profile.Profile.TheVariants.{Manual, Udev}
-use Rattle.devdry_words.specs.Values.{cut_at_commas, is_set, text_of, texts_of}
+use Rattle.devdry_words.specs.Values.{is_set, text_of, texts_of}
 
 -- the subcommand of a verb
 abbrev pub name_of : Verb → Text
@@ -104,22 +102,6 @@ account_path false None own = None
 abbrev pub IsUnreadFile : Option (Text × Bool) → Option AccountFile → Type 0
 IsUnreadFile path file = (option_map (λ f. (f.path.now, f.of_root)) file ≡ path) × IfSome file (λ f. f.bytes ≡ [])
 
--- the codes that begin with the letter of a class
-unfoldable pub codes_with : Text → List Text
-codes_with letter = filter (λ code. starts_with nat_eq code letter) (map code_of remarks)
-
--- the letters of the classes of codes
-abbrev pub class_letters : List Text
-class_letters = codes "V" ∷ codes "S" ∷ codes "H" ∷ codes "W" ∷ codes "D" ∷ codes "L" ∷ codes "I" ∷ []
-
--- the codes of a class, if there is one with this letter
-abbrev pub class_codes : Text → Option (List Text)
-class_codes letter = option_map codes_with (find (λ l. bytes_eq letter l) class_letters)
-
--- what a part of `--ignore` names: the codes of a class, and otherwise itself
-abbrev pub codes_named : Text → List Text
-codes_named part = unwrap_or (class_codes part) (part ∷ [])
-
 -- whether all is asked for: by `--all`, by a check of everything, or where rules files or folders of them are compared, which are
 -- read like that
 abbrev pub asks_all_of : Verb → List Row → Bool
@@ -148,7 +130,7 @@ pub record Reads (verb : Verb) (root : Text) (added named : List Text) (rows : L
   pub format : line.format ≡ unwrap_or (format_of rows) Plain
   pub color : line.color ≡ unwrap_or (color_of rows) Auto
   pub all : line.all ≡ asks_all_of verb rows
-  pub ignored : map (λ c. c.now) line.ignored.items ≡ flat_map codes_named (flat_map cut_at_commas (texts_of (codes "ignore") rows))
+  pub ignored : map (λ c. c.now) line.ignored.items ≡ ignored_codes (texts_of (codes "ignore") rows)
   pub profile : line.profile ≡ profile_of verb rows
   pub users : IsUnreadFile (account_path (asks_every verb rows) (first_of (codes "users") rows) (codes "/etc/passwd")) line.users
   pub groups : IsUnreadFile (account_path (asks_every verb rows) (first_of (codes "groups") rows) (codes "/etc/group")) line.groups

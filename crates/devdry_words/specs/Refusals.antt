@@ -1,5 +1,5 @@
 -- Which of the words that clap takes `devdry` itself refuses, and what it says about them.
-use Rattle.std.specs.Prelude.{◌&&◌, ◌||◌, ◌++◌, List, [], ◌∷◌, Bool, Option, Some, None, if◌then◌else◌, find, flat_map, is_some, map, nat_eq, not}
+use Rattle.std.specs.Prelude.{◌&&◌, ◌||◌, ◌++◌, List, [], ◌∷◌, Bool, Option, Some, None, if◌then◌else◌, find, is_some, map, nat_eq, not}
 use Rattle.std.specs.Prelude.{unwrap_or, codes, false, true}
 use Rattle.std.specs.List.{ends_with, list_any}
 use Rattle.std.specs.Option.{is_none, option_map_or}
@@ -9,15 +9,16 @@ use Rattle.text_bytes.specs.Kinds.{suffix_of}
 use Rattle.text_bytes.specs.declared.source_file.FileKind.TheVariants.{Hwdb, Rules}
 use Rattle.engine_ends.specs.declared.line.Format.{Format}
 use Rattle.engine_ends.specs.declared.line.Format.TheVariants.{Plain, Json, Human}
-use Rattle.engine_formats.specs.Codes.{remark_of, remarks}
+use Rattle.engine_formats.specs.Codes.{remarks}
+use Rattle.engine_formats.specs.Ignored.{unknown_ignored}
 use Rattle.engine_formats.specs.Remarks.{code_of}
 use Rattle.devdry_words.specs.declared.refusals.Refusal.{Refusal}
 use Rattle.devdry_words.specs.declared.refusals.Refusal.TheVariants.{TwoDatabases, LinksAsRules, AddedToNamed, AddedToRules, AddedToIndex, TwoAnswers}
 use Rattle.devdry_words.specs.declared.refusals.Refusal.TheVariants.{LinesBesideJson, InputTwice, UnreadInput}
 use Rattle.devdry_words.specs.declared.refusals.Refusal.TheVariants.{EmptyRoot, EmptySide, NoUdev, UnknownFormat, NoAnswerFormat}
 use Rattle.devdry_words.specs.declared.refusals.Refusal.TheVariants.{UnknownColor, UnknownPart, NotRules, NotFile}
-use Rattle.devdry_words.specs.Lines.{class_codes, color_of, format_of, is_input}
-use Rattle.devdry_words.specs.Values.{cut_at_commas, has_value, is_empty_text, is_set, text_of, texts_of}
+use Rattle.devdry_words.specs.Lines.{color_of, format_of, is_input}
+use Rattle.devdry_words.specs.Values.{has_value, is_empty_text, is_set, text_of, texts_of}
 
 -- the standard input is named as a file
 abbrev pub names_input : List Row → Bool
@@ -122,17 +123,9 @@ is_for_answers _ = false
 abbrev pub lacks_answer_format : Text → List Row → Bool
 lacks_answer_format name rows = answers_blocks name && not (option_map_or is_for_answers (format_of rows) false)
 
--- a part of `--ignore` is the word `comments`, the code of a remark or a class of codes
-abbrev pub is_ignorable : Text → Bool
-is_ignorable part = bytes_eq part (codes "comments") || (is_some (remark_of part) || is_some (class_codes part))
-
--- the first of these parts that is neither
-abbrev pub first_unknown : List Text → Option Text
-first_unknown parts = find (λ part. not (is_ignorable part)) parts
-
--- the first part of `--ignore` that is neither, if there is one
+-- the first part of `--ignore` that may not be ignored, if there is one
 abbrev pub unknown_part : List Row → Option Text
-unknown_part rows = first_unknown (flat_map cut_at_commas (texts_of (codes "ignore") rows))
+unknown_part rows = unknown_ignored (texts_of (codes "ignore") rows)
 
 -- why a file may not be added for a subcommand, if one may not: `verify` reads only rules
 abbrev pub wrong_added : Text → List Row → Option Refusal
@@ -202,19 +195,33 @@ not_a_file = codes "' for '--with <FILE>': its name has to end in .rules or .hwd
 
 -- what is said about matches that are refused
 abbrev pub said_of : Refusal → List Row → Text
-said_of TwoDatabases rows = codes "error: the argument '--index <FILE>' cannot be used with '[FILE]...'\n\nUsage: devdry query --index <FILE> <MODALIAS>\n\nFor more information, try '--help'.\n"
-said_of LinksAsRules rows = codes "error: the argument '--links' cannot be used with '--with <FILE>', '--udev', '--users <FILE>', '--groups <FILE>' or '--strict'\n\nUsage: devdry verify --links [FILE]...\n\nFor more information, try '--help'.\n"
+said_of TwoDatabases rows =
+    codes "error: the argument '--index <FILE>' cannot be used with '[FILE]...'\n\nUsage: devdry query --index <FILE> <MODALIAS>\n\n"
+    ++ codes "For more information, try '--help'.\n"
+said_of LinksAsRules rows =
+    codes "error: the argument '--links' cannot be used with '--with <FILE>', '--udev', '--users <FILE>', '--groups <FILE>' or '--strict'\n\n"
+    ++ codes "Usage: devdry verify --links [FILE]...\n\nFor more information, try '--help'.\n"
 said_of AddedToNamed rows = codes "error: the argument '--with <FILE>' cannot be used with '[FILE]...'\n\nFor more information, try '--help'.\n"
 said_of AddedToRules rows =
-    codes "error: the argument '--with <FILE>' cannot be used with '--rules'\n\nUsage: devdry compare --rules <OLD> <NEW>\n\nFor more information, try '--help'.\n"
-said_of AddedToIndex rows = codes "error: the argument '--with <FILE>' cannot add to the database with '--index <FILE>'\n\nFor more information, try '--help'.\n"
-said_of TwoAnswers rows = codes "error: the argument '--questions' cannot be used with '--sources', '--why <FILE[:LINE]>' or '--unused'\n\nUsage: devdry events --questions [FILE]...\n\nFor more information, try '--help'.\n"
-said_of LinesBesideJson rows = codes "error: the argument '--format=json' cannot be used with '--unused' or '--questions'\n\nUsage: devdry events --format=json [FILE]...\n\nFor more information, try '--help'.\n"
-said_of InputTwice rows = codes "error: '-' can't be '[FILE]...' where the standard input has event blocks or modaliases\n\nFor more information, try '--help'.\n"
+    codes "error: the argument '--with <FILE>' cannot be used with '--rules'\n\nUsage: devdry compare --rules <OLD> <NEW>\n\n"
+    ++ codes "For more information, try '--help'.\n"
+said_of AddedToIndex rows =
+    codes "error: the argument '--with <FILE>' cannot add to the database with '--index <FILE>'\n\nFor more information, try '--help'.\n"
+said_of TwoAnswers rows =
+    codes "error: the argument '--questions' cannot be used with '--sources', '--why <FILE[:LINE]>' or '--unused'\n\n"
+    ++ codes "Usage: devdry events --questions [FILE]...\n\nFor more information, try '--help'.\n"
+said_of LinesBesideJson rows =
+    codes "error: the argument '--format=json' cannot be used with '--unused' or '--questions'\n\nUsage: devdry events --format=json [FILE]...\n\n"
+    ++ codes "For more information, try '--help'.\n"
+said_of InputTwice rows =
+    codes "error: '-' can't be '[FILE]...' where the standard input has event blocks or modaliases\n\nFor more information, try '--help'.\n"
 said_of UnreadInput rows = codes "error: the argument '--stdin-name <PATH>' needs '-' as '[FILE]...'\n\nFor more information, try '--help'.\n"
 said_of EmptyRoot rows = codes "error: an empty value of '--root <DIR>' names no folder\n\nFor more information, try '--help'.\n"
-said_of EmptySide rows = codes "error: an empty value of '<OLD>' or '<NEW>' names no folder; '/' is that of the running system\n\nFor more information, try '--help'.\n"
-said_of NoUdev rows = codes "error: the arguments '--users <FILE>' and '--groups <FILE>' need '--udev' or '--strict'\n\nUsage: devdry verify --udev --users <FILE> --groups <FILE> [FILE]...\n\nFor more information, try '--help'.\n"
+said_of EmptySide rows =
+    codes "error: an empty value of '<OLD>' or '<NEW>' names no folder; '/' is that of the running system\n\nFor more information, try '--help'.\n"
+said_of NoUdev rows =
+    codes "error: the arguments '--users <FILE>' and '--groups <FILE>' need '--udev' or '--strict'\n\n"
+    ++ codes "Usage: devdry verify --udev --users <FILE> --groups <FILE> [FILE]...\n\nFor more information, try '--help'.\n"
 said_of UnknownFormat rows = invalid_value (text_of (codes "format") rows) no_such_format
 said_of NoAnswerFormat rows = invalid_value (text_of (codes "format") rows) no_answer_format
 said_of UnknownColor rows = invalid_value (text_of (codes "color") rows) no_such_color

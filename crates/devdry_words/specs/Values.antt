@@ -1,6 +1,5 @@
 -- The values of an argument, of the matches of a subcommand.
 use Rattle.std.specs.Prelude.{◌==◌, List, [], Bool, length, not, unwrap_or, codes, false}
-use Rattle.std.specs.List.{slice_split}
 use Rattle.std.specs.Option.{option_map_or}
 use Rattle.std.specs.Str.{bytes_eq}
 use Rattle.clap.specs.Words.{Row, Text, all_of, first_of}
@@ -24,7 +23,3 @@ is_empty_text id rows = option_map_or (λ t. length t == 0) (first_of id rows) f
 -- the argument has a value
 abbrev pub has_value : Text → List Row → Bool
 has_value id rows = not (length (texts_of id rows) == 0)
-
--- the parts of a text between its commas
-abbrev pub cut_at_commas : Text → List Text
-cut_at_commas text = slice_split (λ b. b == 44) text

@@ -2,9 +2,9 @@
 //!
 //! An argument that a subcommand does not take has no value there, so that the same questions can be asked of the
 //! matches of each.
-ghost use Rattle.std.specs.Prelude.{◌≡◌, IfOk, flat_map, map, option_map};
+ghost use Rattle.std.specs.Prelude.{◌≡◌, IfOk, map, option_map};
 ghost use Rattle.clap.specs.Words.{all_of, first_of, found_of, rows_of};
-ghost use Rattle.devdry_words.specs.Values.{cut_at_commas, has_value, is_empty_text, is_set, text_of, texts_of};
+ghost use Rattle.devdry_words.specs.Values.{has_value, is_empty_text, is_set, text_of, texts_of};
 
 use clap::ArgMatches;
 use std::alloc::{AllocError, Global};
@@ -76,39 +76,5 @@ pub(crate) fn has_value(matches: &ArgMatches<'_>, id: &str) -> bool
     match every_value(matches, id) {
         Some(texts) => !texts.is_empty(),
         None => false,
-    }
-}
-
-/// The parts of a text between its commas.
-fn cut_at_commas(alloc: Global, text: &str) -> Result<Vec<&str>, AllocError>
-    ensures { IfOk result (λ parts. map (λ p. p.now) parts.items ≡ cut_at_commas text.now) }
-{
-    text.split(',').collect(alloc)
-}
-
-/// The parts of texts between their commas, in their order.
-fn cut_each_at_commas<'a>(alloc: Global, texts: &[&'a str]) -> Result<Vec<&'a str>, AllocError>
-    ensures { IfOk result (λ parts. map (λ p. p.now) parts.items
-        ≡ flat_map cut_at_commas (map (λ t. t.now) texts.now)) }
-{
-    let mut parts = Vec::new(alloc);
-    for text in texts {
-        parts.extend_from_slice(&cut_at_commas(alloc, text)?)?;
-    }
-    Ok(parts)
-}
-
-/// The values of an argument in their order, each cut at its commas; none if it was not given.
-pub(crate) fn parts<'a>(
-    alloc: Global,
-    matches: &ArgMatches<'a>,
-    id: &str,
-) -> Result<Vec<&'a str>, AllocError>
-    ensures { IfOk result (λ parts. map (λ p. p.now) parts.items
-        ≡ flat_map cut_at_commas (texts_of id.now (rows_of (found_of matches.now)))) }
-{
-    match every_value(matches, id) {
-        Some(texts) => cut_each_at_commas(alloc, texts),
-        None => Ok(Vec::new(alloc)),
     }
 }

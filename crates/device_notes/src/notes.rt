@@ -1,6 +1,5 @@
 //! The notes about a block.
-ghost use Rattle.std.specs.Prelude.{◌≡◌, ◌++◌, IfOk, OnOk, map, option_map};
-ghost use Rattle.text_tables.specs.Texts.{is_among};
+ghost use Rattle.std.specs.Prelude.{◌≡◌, ◌++◌, IfOk, OnOk, option_map};
 ghost use Rattle.device_notes.specs.Notes.{actions, begins_with_sys, block_notes, is_behind_commands, is_filled};
 ghost use Rattle.device_notes.specs.Notes.{is_stored_by_udev, is_unknown_action, note_if, udev_notes};
 
@@ -8,6 +7,7 @@ use crate::kinds::BlockNoteKind;
 use device_core::Event;
 use std::alloc::{AllocError, Global};
 use text_bytes::{Bytes, Profile, word_of};
+use text_tables::is_among;
 
 /// The actions that udev has, as udevadm(8) lists them for `trigger --action`.
 const ACTIONS: [&[u8]; 8] = [
@@ -24,18 +24,6 @@ pub struct BlockNote {
     pub kind: BlockNoteKind,
     /// The first 32 bytes of the text that it is about, before escaping.
     pub word: Bytes,
-}
-
-/// Whether a text is one of these.
-fn is_among(texts: &[&[u8]], text: &[u8]) -> bool
-    ensures { result ≡ is_among (map (λ t. t.now) texts.now) text.now }
-{
-    for other in texts {
-        if text == *other {
-            return true;
-        }
-    }
-    false
 }
 
 /// Whether udev has no such action.

@@ -7,6 +7,7 @@ use Rattle.file_messages.specs.declared.message.Message.{Message}
 use Rattle.text_bytes.specs.declared.profile.Profile.TheVariants.{Manual}
 use Rattle.text_bytes.specs.declared.source_file.SourceFile.{SourceFile}
 use Rattle.text_bytes.specs.declared.source_file.FileKind.TheVariants.{Rules}
+use Rattle.file_messages.specs.Messages.{is_style}
 use Rattle.text_tables.specs.Texts.{Text}
 use Rattle.file_messages.specs.declared.message.MessageKind.{MessageKind}
 use Rattle.hwdb_core.specs.Sources.{messages_of}
@@ -21,7 +22,7 @@ use Rattle.rule_remarks.specs.Findings.{findings_as}
 use Rattle.rule_file_lints.specs.FileLints.{placed_lints}
 use Rattle.engine_ends.specs.declared.line.Format.TheVariants.{Plain}
 use Rattle.engine_ends.specs.declared.line.Line.{Line}
-use Rattle.engine_reports.specs.Checks.{files_said, is_style, reported, said_of}
+use Rattle.engine_reports.specs.Checks.{files_said, reported, said_of}
 use Rattle.engine_reports.specs.FilesRead.{files_read}
 use Rattle.engine_reports.specs.Messages.{message_lines}
 use Rattle.engine_reports.specs.Outcomes.{rules_outcome, too_many_rules, verify_outcome}

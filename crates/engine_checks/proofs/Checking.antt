@@ -63,7 +63,7 @@ module _ (line : Line) (asked : Asked) (p : asked.profile ≡ line.profile) (a :
       ∙ ap (λ b. found_with (file_text line file) (findings_of line file) (cond (line.lint || b) (placed_lints asked.profile file) [])) (e comments_word)
       ∙ ap (λ by. found_with (file_text line file) (findings_of line file) (cond (line.lint || has_comments (ignored_by line)) (placed_lints by file) [])) p
 
-  rules_file : (file : SourceFile) → rules_reported_by asked (read_by line file) ≡ rules_reported line file
+  pub rules_file : (file : SourceFile) → rules_reported_by asked (read_by line file) ≡ rules_reported line file
   unfolding rules_reported
   rules_file file = ap (file_reported asked (file_text line file) (ignores_counted asked file)) (found_file file) ∙ one_file file (rules_found line file)
 
@@ -73,7 +73,7 @@ module _ (line : Line) (asked : Asked) (p : asked.profile ≡ line.profile) (a :
       ap (λ b. database_found_with (file_text line file) (messages_of (file ∷ [])) (cond (b || has_comments asked.ignored) (database_lints file.bytes) [])) l
       ∙ ap (λ b. database_found_with (file_text line file) (messages_of (file ∷ [])) (cond (line.lint || b) (database_lints file.bytes) [])) (e comments_word)
 
-  database_file : (file : SourceFile) → database_reported_by asked (read_by line file) ≡ database_reported line file
+  pub database_file : (file : SourceFile) → database_reported_by asked (read_by line file) ≡ database_reported line file
   unfolding database_reported
   database_file file = ap (file_reported asked (file_text line file) (ignores_counted asked file)) (found_database file) ∙ one_file file (database_found line file)
 

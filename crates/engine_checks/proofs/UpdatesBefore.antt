@@ -4,7 +4,7 @@ use Rattle.std.specs.List.{flat_map}
 use Rattle.std.proofs.lemmas.List.Elements.{All-append, All-cons, All-head, All-map, All-nil, All-tail}
 use Rattle.text_bytes.specs.Lines.{NumberedLine, lines, numbered_lines}
 use Rattle.text_bytes.specs.Texts.{word_of}
-use Rattle.file_messages.specs.Messages.{message}
+use Rattle.file_messages.specs.Messages.{is_style, message}
 use Rattle.text_bytes.specs.Names.{equals}
 use Rattle.file_messages.specs.declared.message.Message.{Message}
 use Rattle.file_messages.specs.declared.message.MessageKind.{MessageKind}
@@ -23,7 +23,6 @@ use Rattle.trie_core.specs.Image.{image}
 use Rattle.engine_ends.specs.Delivery.{RunOutcome}
 use Rattle.engine_ends.specs.declared.line.Format.TheVariants.{Plain}
 use Rattle.engine_ends.specs.declared.line.Line.{Line}
-use Rattle.engine_reports.specs.Checks.{is_style}
 use Rattle.engine_reports.specs.FilesRead.{files_read}
 use Rattle.engine_reports.specs.Messages.{message_lines}
 use Rattle.engine_reports.specs.Outcomes.{database_outcome, too_many_entries, update_outcome, update_status}

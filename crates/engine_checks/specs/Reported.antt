@@ -4,10 +4,10 @@ use Rattle.std.specs.Prelude.{None, option_map}
 use Rattle.std.specs.List.{list_any}
 use Rattle.text_bytes.specs.Lines.{NumberedLine}
 use Rattle.text_bytes.specs.declared.profile.Profile.{Profile}
+use Rattle.file_messages.specs.Messages.{is_style}
 use Rattle.text_tables.specs.Texts.{Text, is_among, same_text}
 use Rattle.rule_pairs.specs.Accounts.{Accounts}
 use Rattle.rule_remarks.specs.ByLine.{by_line}
-use Rattle.engine_reports.specs.Checks.{is_style}
 use Rattle.engine_formats.specs.Diagnostics.{DiagnosticValue}
 use Rattle.engine_formats.specs.Placing.{line_numbered}
 use Rattle.engine_formats.specs.Remarks.{code_of}

@@ -1,7 +1,8 @@
--- Serves inner proofs only: codes in comments and codes of diagnostics, as tables hold them.
-use Rattle.std.specs.Prelude.{ℕ, Bool, true, false, not, ◌==◌, ◌&&◌, ◌||◌, if◌then◌else◌, List, [], ◌∷◌, map, Option, Some, None}
+-- Codes in comments and codes of diagnostics, as tables hold them, and what is reported for a file that is read by what is asked.
+use Rattle.std.specs.Prelude.{◌≡◌, ℕ, Bool, true, false, not, ◌==◌, ◌&&◌, ◌||◌, if◌then◌else◌, List, [], ◌∷◌, map, Option, Some, None}
 use Rattle.std.specs.List.{list_any}
 use Rattle.std.specs.Option.{option_map_or}
+use Rattle.text_bytes.specs.Lines.{numbered_lines}
 use Rattle.text_tables.specs.Texts.{Text, is_among, same_text}
 use Rattle.engine_formats.specs.Diagnostics.{DiagnosticValue}
 use Rattle.engine_formats.specs.Remarks.{code_of}
@@ -12,7 +13,8 @@ use Rattle.hwdb_core.specs.Sources.{messages_of}
 use Rattle.rule_remarks.specs.Findings.{findings_as}
 use Rattle.engine_ends.specs.declared.line.Line.{Line}
 use Rattle.engine_checks.specs.Ignores.{Ignore}
-use Rattle.engine_checks.specs.Files.{database_found_with, database_lints_counted, file_text, found_with, ignores_counted, lints_counted}
+use Rattle.engine_checks.specs.Files.{accounts_by, database_found_with, database_lints_counted, file_text, found_with, ignored_by, ignores_counted}
+use Rattle.engine_checks.specs.Files.{lints_counted}
 use Rattle.engine_checks.specs.Links.{link_text, links_found}
 use Rattle.engine_checks.specs.Reported.{Asked, FileText, file_reported, is_asked, is_unknown}
 use Rattle.engine_checks.specs.declared.ignores.Scope.{Scope}
@@ -78,6 +80,10 @@ pub record FileRead : Type 0 where
   pub file : SourceFile
   pub text : FileText
 
+-- a file that was opened by a path
+abbrev pub read_at : Text → SourceFile → FileRead
+read_at path file = record { file = file; text = record { name = file.name; path = path; lines = numbered_lines file.bytes } }
+
 -- a file that a command line reads
 abbrev pub read_by : Line → SourceFile → FileRead
 read_by line file = record { file = file; text = file_text line file }
@@ -105,3 +111,11 @@ link_read_by line file = record { file = file; text = link_text line file }
 -- what is reported for a .link file that is read, among these files
 abbrev pub links_reported_by : Asked → List SourceFile → FileRead → List DiagnosticValue
 links_reported_by asked files read = file_reported asked read.text (ignores_counted asked read.file) (links_found read.text files read.file)
+
+-- The same is asked for as by a command line, whatever the order in which codes are ignored.
+pub record AsksLike (line : Line) (asked : Asked) : Type 0 where
+  pub profile : asked.profile ≡ line.profile
+  pub accounts : asked.accounts ≡ accounts_by line
+  pub style : asked.style ≡ line.style
+  pub lint : asked.lint ≡ line.lint
+  pub ignored : (code : Text) → is_among asked.ignored code ≡ is_among (ignored_by line) code

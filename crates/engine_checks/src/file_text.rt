@@ -1,5 +1,6 @@
 //! A file as diagnostics show it.
 ghost use Rattle.std.specs.Prelude.{◌≡◌, IfOk};
+ghost use Rattle.text_bytes.specs.Lines.{numbered_lines};
 ghost use Rattle.engine_formats.specs.Placing.{line_numbered};
 ghost use Rattle.engine_checks.specs.Files.{file_text};
 ghost use Rattle.engine_checks.specs.Links.{link_text};
@@ -28,6 +29,21 @@ impl<'a> Model for FileText<'a> {
 }
 
 impl<'a> FileText<'a> {
+    /// A file that was opened by a path.
+    pub(crate) fn at(
+        alloc: Global,
+        path: Vec<u8>,
+        file: &'a SourceFile,
+    ) -> Result<FileText<'a>, AllocError>
+        ensures { IfOk result (λ text. text ≡ record { name = file.now.name; path = path.items; lines = numbered_lines file.now.bytes }) }
+    {
+        Ok(FileText {
+            name: file.name.as_slice(),
+            path: Bytes::new(path),
+            lines: file_lines(alloc, file.bytes.as_slice())?,
+        })
+    }
+
     /// A file that a command line reads.
     pub(crate) fn of(
         alloc: Global,
@@ -36,11 +52,8 @@ impl<'a> FileText<'a> {
     ) -> Result<FileText<'a>, AllocError>
         ensures { IfOk result (λ text. text ≡ file_text line.now file.now) }
     {
-        Ok(FileText {
-            name: file.name.as_slice(),
-            path: Bytes::new(path_of(alloc, line, file)?),
-            lines: file_lines(alloc, file.bytes.as_slice())?,
-        })
+        let path = path_of(alloc, line, file)?;
+        FileText::at(alloc, path, file)
     }
 
     /// A `.link` file or a drop-in that a command line reads.
@@ -51,11 +64,8 @@ impl<'a> FileText<'a> {
     ) -> Result<FileText<'a>, AllocError>
         ensures { IfOk result (λ text. text ≡ link_text line.now file.now) }
     {
-        Ok(FileText {
-            name: file.name.as_slice(),
-            path: Bytes::new(link_path(alloc, line, file)?),
-            lines: file_lines(alloc, file.bytes.as_slice())?,
-        })
+        let path = link_path(alloc, line, file)?;
+        FileText::at(alloc, path, file)
     }
 
     /// The name, as messages give it.

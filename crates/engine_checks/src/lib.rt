@@ -33,6 +33,7 @@ mod reported;
 mod rules_found;
 mod rules_reported;
 mod silenced;
+mod single;
 mod starts;
 mod updates;
 
@@ -48,5 +49,10 @@ pub use link_checks::{report_on_links, serve_links};
 pub use lint_laws::{
     comments_count_for_lints, lints_are_reported_where_asked,
     messages_are_reported_as_without_lints,
+};
+pub use reads::FileRead;
+pub use reported::Asked;
+pub use single::{
+    a_file_by_itself_is_reported_alike, diagnostics_of_database, diagnostics_of_rules,
 };
 pub use updates::report_on_reported_update;

@@ -1,6 +1,6 @@
 //! Files that are read for their checks.
 ghost use Rattle.std.specs.Prelude.{◌≡◌, map, IfOk};
-ghost use Rattle.engine_checks.specs.Tables.{link_read_by, read_by};
+ghost use Rattle.engine_checks.specs.Tables.{link_read_by, read_at, read_by};
 
 use crate::file_text::FileText;
 use engine_ends::Line;
@@ -8,9 +8,9 @@ use std::alloc::{AllocError, Global};
 use std::marker::Model;
 use text_bytes::SourceFile;
 
-/// A file as diagnostics show it.
+/// A file that is read for its checks, and as diagnostics show it.
 #[derive(Drop)]
-pub(crate) struct FileRead<'a> {
+pub struct FileRead<'a> {
     file: &'a SourceFile,
     text: FileText<'a>,
 }
@@ -24,6 +24,14 @@ impl<'a> Model for FileRead<'a> {
 }
 
 impl<'a> FileRead<'a> {
+    /// A file that was opened by a path, and which no command line names.
+    pub fn at(alloc: Global, path: &[u8], file: &'a SourceFile) -> Result<FileRead<'a>, AllocError>
+        ensures { IfOk result (λ read. read ≡ read_at path.now file.now) }
+    {
+        let text = FileText::at(alloc, Vec::from_slice(alloc, path)?, file)?;
+        Ok(FileRead { file, text })
+    }
+
     /// The file.
     pub(crate) fn file(&self) -> &'a SourceFile
         ensures { result.now ≡ self.now.file }

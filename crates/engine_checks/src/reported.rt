@@ -11,26 +11,25 @@ use crate::ignores::Ignore;
 use crate::met::Met;
 use crate::silenced::Silenced;
 use engine_formats::{Diagnostic, Remark};
-use engine_reports::is_style;
 use rule_pairs::Accounts;
 use std::alloc::{AllocError, Global};
 use std::marker::Model;
 use text_bytes::Profile;
 use text_tables::Texts;
 
-/// Which remarks a command line asks for.
+/// Which remarks are asked for.
 #[derive(Drop)]
-pub(crate) struct Asked<'a> {
+pub struct Asked<'a> {
     /// The profile by which rules are read.
-    pub(crate) profile: Profile,
+    pub profile: Profile,
     /// The users and the groups that are known.
-    pub(crate) accounts: Accounts,
+    pub accounts: Accounts,
     /// Whether those about style are reported.
-    pub(crate) style: bool,
+    pub style: bool,
     /// Whether lints are reported.
-    pub(crate) lint: bool,
-    /// The codes of those that are not reported.
-    pub(crate) ignored: Texts<'a>,
+    pub lint: bool,
+    /// The codes of those that are not reported; `comments` among them says that comments in the files count, too.
+    pub ignored: Texts<'a>,
 }
 
 impl<'a> Model for Asked<'a> {
@@ -46,7 +45,7 @@ fn is_about_style(remark: Remark) -> bool
     ensures { result ≡ is_about_style remark }
 {
     match remark {
-        Remark::Message(kind) => is_style(kind),
+        Remark::Message(kind) => kind.is_style(),
         _ => false,
     }
 }

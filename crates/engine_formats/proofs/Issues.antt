@@ -5,7 +5,8 @@ use Rattle.json.specs.Token as token
 use Rattle.json.specs.Token.{Token}
 use Rattle.json.specs.Tree.{items_tokens, json_tokens}
 use Rattle.engine_formats.specs.Fingerprints.{FingerprintedValue}
-use Rattle.engine_formats.specs.Json.{array_of, gitlab_issue, items_of}
+use Rattle.text_json.specs.Values.{array_of, items_of}
+use Rattle.engine_formats.specs.Json.{gitlab_issue}
 use Rattle.engine_formats.specs.Sarif.{result_object, rule_object}
 use Rattle.engine_formats.specs.Tokens.{issue_tokens, result_tokens, rule_tokens}
 use Rattle.engine_formats.specs.declared.remark.Remark.{Remark}

@@ -15,3 +15,5 @@ mod Masking
 mod Carets
 mod NearestNames
 mod MeantNames
+mod Classes
+mod Unknown

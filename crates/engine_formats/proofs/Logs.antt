@@ -15,7 +15,7 @@ use Rattle.json.proofs.Printed.Decimals.{IsNumber-decimal}
 use Rattle.json.proofs.Printed.Trees.{document-print}
 use Rattle.engine_formats.specs.Diagnostics.{DiagnosticValue}
 use Rattle.engine_formats.specs.Fingerprints.{FingerprintedValue, fingerprinted}
-use Rattle.engine_formats.specs.Json.{array_of, items_of}
+use Rattle.text_json.specs.Values.{array_of, items_of}
 use Rattle.engine_formats.specs.Readers.{HasPlace, github_read, message_read}
 use Rattle.engine_formats.specs.Sarif.{character_column, is_brace, log_object, message_byte, message_text, region_object, result_object, rule_object, driver_object, run_object, sarif_log, tool_object}
 use Rattle.engine_formats.specs.Uris.{is_kept, uri_byte, uri_path}

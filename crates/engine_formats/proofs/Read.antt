@@ -12,7 +12,8 @@ use Rattle.json.proofs.Printed.Trees.{document-print}
 use Rattle.engine_formats.specs.Diagnostics.{DiagnosticValue}
 use Rattle.text_tables.specs.Texts.{Text}
 use Rattle.engine_formats.specs.Fingerprints.{FingerprintedValue, fingerprinted, fingerprinted_after, mark_of}
-use Rattle.engine_formats.specs.Json.{array_of, gitlab_issue, gitlab_report, items_of, json_line, json_object}
+use Rattle.text_json.specs.Values.{array_of, items_of}
+use Rattle.engine_formats.specs.Json.{gitlab_issue, gitlab_report, json_line, json_object}
 use Rattle.engine_formats.specs.Readers.{HasPlace}
 use Rattle.engine_formats.proofs.OneLine.{AreClean, Lacks, clean-append, decimal_lacks, first_line_is, print_lacks}
 

@@ -1,9 +1,10 @@
 -- Diagnostics as JSON.
-use Rattle.std.specs.Prelude.{ℕ, List, [], ◌∷◌, ◌++◌, codes, decimal, map}
+use Rattle.std.specs.Prelude.{ℕ, List, [], ◌∷◌, ◌++◌, codes, map}
 use Rattle.std.specs.Str.Lossy.{utf8_lossy}
 use Rattle.text_bytes.specs.Names.{newline}
+use Rattle.text_json.specs.Values.{array_of, number_value, object_of}
 use Rattle.engine_ends.specs.Places.{word_part}
-use Rattle.json.specs.Json.{Json, array, number, object, string, Items, item, no_items, Members, member, no_members}
+use Rattle.json.specs.Json.{Json, string}
 use Rattle.json.specs.Print.{print}
 use Rattle.json.specs.Tree.{json_tokens}
 use Rattle.engine_formats.specs.Diagnostics.{DiagnosticValue}
@@ -15,26 +16,6 @@ use Rattle.engine_formats.specs.declared.remark.Severity.TheVariants.{Error, War
 -- a text of a file, in which what is not UTF-8 becomes U+FFFD
 abbrev pub text_value : List ℕ → Json
 text_value text = string (utf8_lossy text)
-
-abbrev pub number_value : ℕ → Json
-number_value n = number (decimal n)
-
--- members, each of a key and a value
-abbrev pub members_of : List (List ℕ × Json) → Members
-members_of [] = no_members
-members_of (m ∷ ms) = member m.0 m.1 (members_of ms)
-
--- an object of members, in this order
-abbrev pub object_of : List (List ℕ × Json) → Json
-object_of ms = object (members_of ms)
-
-abbrev pub items_of : List Json → Items
-items_of [] = no_items
-items_of (j ∷ js) = item j (items_of js)
-
--- an array of values
-abbrev pub array_of : List Json → Json
-array_of js = array (items_of js)
 
 -- a diagnostic as an object
 abbrev pub json_object : DiagnosticValue → Json

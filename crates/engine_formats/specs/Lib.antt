@@ -23,3 +23,4 @@ pub mod Readers
 pub mod Made
 pub mod Paths
 pub mod Placing
+pub mod Ignored

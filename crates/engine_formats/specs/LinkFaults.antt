@@ -1,5 +1,5 @@
 -- The faults of .link files, in words.
-use Rattle.std.specs.Prelude.{ℕ, List, [], ◌∷◌, codes}
+use Rattle.std.specs.Prelude.{ℕ, List, [], ◌∷◌, ◌++◌, codes}
 use Rattle.link_lints.specs.declared.fault.LinkFault.{LinkFault}
 use Rattle.link_lints.specs.declared.fault.LinkFault.TheVariants.{UnknownSection, UnknownKey, BadLine, BadValue, NoInterface}
 
@@ -17,7 +17,9 @@ link_heading NoInterface = codes "L5 file for no interface"
 
 -- the sentence on a fault
 abbrev pub link_advice : LinkFault → List ℕ
-link_advice UnknownSection = codes "Write [Match], [Link], [SR-IOV] or [EnergyEfficientEthernet]: all of another section is skipped, and names that begin with X- are free to use."
+link_advice UnknownSection =
+    codes "Write [Match], [Link], [SR-IOV] or [EnergyEfficientEthernet]: all of another section is skipped, and names that begin with X- "
+    ++ codes "are free to use."
 link_advice UnknownKey = codes "Write a key that systemd.link(5) has for the section, with its capitals: a line of another one is skipped."
 link_advice BadLine = codes "Write KEY=VALUE below a section, [SECTION], or a comment that begins with # or ;."
 link_advice BadValue = codes "Write a value that systemd.link(5) has for the key: any other has no effect."

@@ -10,7 +10,8 @@ use Rattle.engine_formats.specs.Advice.{advice_of}
 use Rattle.engine_formats.specs.Diagnostics.{DiagnosticValue}
 use Rattle.engine_formats.specs.Fingerprints.{FingerprintedValue, fingerprinted}
 use Rattle.engine_formats.specs.Human.{continues}
-use Rattle.engine_formats.specs.Json.{array_of, number_value, object_of, text_value}
+use Rattle.text_json.specs.Values.{array_of, number_value, object_of}
+use Rattle.engine_formats.specs.Json.{text_value}
 use Rattle.engine_formats.specs.Remarks.{code_of, severity_of, severity_word, text_of}
 use Rattle.engine_formats.specs.Uris.{uri_of}
 use Rattle.engine_formats.specs.declared.remark.Remark.{Remark}

@@ -10,11 +10,12 @@ ghost use Rattle.engine_formats.specs.Remarks.{remark_heading};
 
 use crate::diagnostic::Diagnostic;
 use crate::fingerprints::{Fingerprinted, with_fingerprints};
-use crate::json_members::{write_number, write_text, write_word};
+use crate::json_members::write_text;
 use crate::remark::{Remark, Severity};
 use engine_ends::push_word;
 use json::Writer;
 use std::alloc::{AllocError, Global};
+use text_json::{write_number, write_word};
 
 /// The report of diagnostics: an array of issues in the order given, on one line.
 #[tactic(auto, unfolding(crate::specs::Json::gitlab_report))]

@@ -30,7 +30,7 @@ const BACKSLASH_MISSING: &[u8] =
     b"Remove the comma at the end, or write a backslash after it if the rule goes on in the next line.";
 
 /// Appends how to fix what a diagnostic is about, in one sentence: a question if a known name may have been meant.
-pub(crate) fn push_advice_for(
+pub fn push_advice_for(
     alloc: Global,
     text: &mut Vec<u8>,
     diagnostic: &Diagnostic<'_>,

@@ -1,10 +1,11 @@
 //! Members of JSON objects, added to what a writer has written.
-ghost use Rattle.std.specs.Prelude.{◌≡◌, ◌∷◌, [], ◌++◌, decimal, OnOk};
+ghost use Rattle.std.specs.Prelude.{◌≡◌, ◌∷◌, [], ◌++◌, OnOk};
 ghost use Rattle.std.specs.Str.Lossy.{utf8_lossy};
 ghost use Rattle.json.specs.Token as token;
 
 use json::Writer;
 use std::alloc::{AllocError, Global};
+use text_json::write_word;
 
 /// A member with a text of a file. What is not UTF-8 in it becomes U+FFFD, as JSON has to be UTF-8.
 pub(crate) fn write_text(
@@ -18,22 +19,4 @@ pub(crate) fn write_text(
 {
     let text = String::from_utf8_lossy(alloc, text)?;
     write_word(writer, key, &text)
-}
-
-/// A member with a text of the program's own.
-pub(crate) fn write_word(writer: &mut Writer, key: &str, word: &str) -> Result<(), AllocError>
-    ensures tokens { OnOk result (writer.new.tokens ≡ writer.old.tokens ++ token.key key.now ∷ token.string word.now ∷ []) }
-    ensures before { OnOk result (writer.new.before ≡ writer.old.before) }
-{
-    writer.key(key)?;
-    writer.string(word)
-}
-
-/// A member with a number.
-pub(crate) fn write_number(writer: &mut Writer, key: &str, number: u32) -> Result<(), AllocError>
-    ensures tokens { OnOk result (writer.new.tokens ≡ writer.old.tokens ++ token.key key.now ∷ token.number (decimal number) ∷ []) }
-    ensures before { OnOk result (writer.new.before ≡ writer.old.before) }
-{
-    writer.key(key)?;
-    writer.u64(u64::from(number))
 }

@@ -16,6 +16,7 @@ mod github_escapes;
 mod gitlab;
 mod hints;
 mod human;
+mod ignored;
 mod json_members;
 mod laws;
 mod link_faults;
@@ -38,11 +39,14 @@ mod uris;
 pub use codes::{each_remark_is_found, remark_of, remarks};
 pub use diagnostic::Diagnostic;
 pub use formats::{formatted, is_report};
+pub use hints::push_advice_for;
+pub use ignored::{ignored_codes, unknown_ignored};
 pub use laws::{
     a_heading_is_its_code_and_text, commands_are_read_back, commands_end_nowhere_within,
     diagnostics_have_their_lines, marks_are_below_their_places, messages_are_at_their_words,
     messages_are_plain_diagnostics, style_is_a_warning, terminals_are_not_obeyed,
 };
+pub use meant::meant_as;
 pub use near::nearest;
 pub use near_laws::{
     options_that_are_meant_are_known, some_unknown_names_are_found, the_nearest_name_is_found,

@@ -1,10 +1,9 @@
 //! Which known name an unknown one may have been meant as.
-ghost use Rattle.std.specs.Prelude.{◌≡◌, ◌≤◌, false, length, map, nat_eq, not, option_map, IfOk};
+ghost use Rattle.std.specs.Prelude.{◌≡◌, ◌≤◌, false, length, map, nat_eq, option_map, IfOk};
 ghost use Rattle.std.specs.Char.{is_ascii_alphabetic};
 ghost use Rattle.std.specs.List.{list_any, prefix_len, starts_with};
 ghost use Rattle.text_bytes.specs.Names.{equals};
 ghost use Rattle.text_bytes.specs.Texts.{split_once};
-ghost use Rattle.rule_templates.specs.Integers.{is_separator};
 ghost use Rattle.rule_types.specs.Builtins.{builtin_name, first_word};
 ghost use Rattle.rule_types.specs.Names.{key_name};
 ghost use Rattle.engine_formats.specs.Meant.{has_name, letters, meant_as, name_in, names_for, option_in, unknown_after};
@@ -13,8 +12,7 @@ ghost use Rattle.engine_formats.specs.declared.remark.Remark.TheVariants as abou
 use crate::near::nearest;
 use crate::remark::Remark;
 use file_messages::MessageKind;
-use rule_templates::{after_separators, is_separator};
-use rule_types::{Builtin, Key};
+use rule_types::{Builtin, Key, first_word};
 use std::alloc::{AllocError, Global};
 use text_bytes::{split_once, word_of};
 
@@ -143,23 +141,6 @@ fn names_for(alloc: Global, kind: MessageKind) -> Result<Vec<&'static [u8]>, All
     }
 }
 
-/// The first word of a text, empty if the text has none.
-fn first_word(text: &[u8]) -> &[u8]
-    ensures { result.now ≡ first_word text.now }
-{
-    let words = after_separators(text);
-    let (word, _) = words.split_at(word_length(words));
-    word
-}
-
-/// How many bytes that don't separate words a text begins with.
-fn word_length(text: &[u8]) -> usize
-    ensures value { result ≡ prefix_len (λ b. not (is_separator b)) text.now }
-    ensures within { result ≤ length text.now }
-{
-    text.iter().take_while(|byte| !is_separator(**byte)).count()
-}
-
 /// The option that a value names: what comes before `=`, or all of it.
 fn option_in(value: &[u8]) -> &[u8]
     ensures { result.now ≡ option_in (split_once equals value.now) value.now }
@@ -251,7 +232,7 @@ fn meant_by(
 }
 
 /// The known name that the word of a remark may have been meant as, if there is one.
-pub(crate) fn meant_as(
+pub fn meant_as(
     alloc: Global,
     remark: Remark,
     word: &[u8],

@@ -1,21 +1,12 @@
 //! The known name that is nearest to a word.
 ghost use Rattle.std.specs.Prelude.{◌≡◌, map, nat_le, option_map, IfOk};
-ghost use Rattle.std.specs.Char.{to_ascii_lowercase};
 ghost use Rattle.std.specs.List.{find};
 ghost use Rattle.engine_formats.specs.Near.{distance, farthest, nearest, reach};
 
-use rule_lints::is_among;
 use std::alloc::{AllocError, Global};
 use strsim::generic_levenshtein;
-
-/// A text in lower case letters.
-fn small(alloc: Global, text: &[u8]) -> Result<Vec<u8>, AllocError>
-    ensures { IfOk result (λ letters. letters.items ≡ map to_ascii_lowercase text.now) }
-{
-    text.iter()
-        .map(|byte| byte.to_ascii_lowercase())
-        .collect(alloc)
-}
+use text_bytes::small;
+use text_tables::is_among;
 
 /// How many bytes have to be put in, taken out or replaced at least to come from a name to a word; the case of letters
 /// does not count.

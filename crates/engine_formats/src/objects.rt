@@ -5,9 +5,10 @@ ghost use Rattle.engine_formats.specs.Diagnostics.{shown};
 ghost use Rattle.engine_formats.specs.Json.{json_line, json_object};
 
 use crate::diagnostic::Diagnostic;
-use crate::json_members::{write_number, write_text, write_word};
+use crate::json_members::write_text;
 use json::Writer;
 use std::alloc::{AllocError, Global};
+use text_json::{write_number, write_word};
 
 /// The lines of diagnostics, in the order given.
 pub(crate) fn json_lines(

@@ -7,7 +7,7 @@ ghost use Rattle.json.specs.Tree.{json_tokens};
 ghost use Rattle.engine_formats.specs.Diagnostics.{shown};
 ghost use Rattle.engine_formats.specs.Fingerprints.{shown_given};
 ghost use Rattle.engine_formats.specs.Human.{continues};
-ghost use Rattle.engine_formats.specs.Json.{array_of, object_of};
+ghost use Rattle.text_json.specs.Values.{array_of, object_of};
 ghost use Rattle.engine_formats.specs.Remarks.{text_of};
 ghost use Rattle.engine_formats.specs.Sarif.{character_column, log_object, message_byte, message_object, message_text, place_object, region_object};
 ghost use Rattle.engine_formats.specs.Sarif.{result_object, rule_object, run_object, sarif_log, tool_object};
@@ -15,7 +15,7 @@ ghost use Rattle.engine_formats.specs.Tokens.{result_tokens, rule_tokens};
 
 use crate::diagnostic::Diagnostic;
 use crate::fingerprints::{Fingerprinted, with_fingerprints};
-use crate::json_members::{write_number, write_text, write_word};
+use crate::json_members::write_text;
 use crate::marks::{continues, prefix};
 use crate::remark::Remark;
 use crate::uris::uri_of;
@@ -23,6 +23,7 @@ use engine_ends::push_word;
 use json::Writer;
 use std::alloc::{AllocError, Global};
 use text_bytes::capped;
+use text_json::{write_number, write_word};
 
 /// Where the schema of a log is.
 const SCHEMA: &str =

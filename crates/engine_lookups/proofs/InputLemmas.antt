@@ -14,17 +14,18 @@ use Rattle.engine_ends.specs.Sinks.{HandsOn, SinkState}
 use Rattle.engine_ends.proofs.Counting.{counts-none}
 use Rattle.engine_ends.proofs.Reported.{followed_by-nil}
 use Rattle.engine_sessions.specs.Inputs.{BeforeReads, GoesOn, ReadsWell, UsesUp, all_but_last, most_turns}
-use Rattle.engine_sessions.specs.Serves.{WritesOut}
+use Rattle.engine_sessions.specs.Serves.{HasFlushed, WritesOut}
 use Rattle.engine_sessions.specs.Turns.{Reads, joined, most_read}
 use Rattle.engine_sessions.proofs.Turns.{all_but_last-push, goes_on-few, goes_on-push, joined-push, later_none, led_by-nil, left_after, none_left_after, one_more, reads_after, reads_more, shown, some_byte, to_fault, went_on}
 use Rattle.engine_lookups.specs.Outcomes.{most_bytes}
-use Rattle.engine_lookups.specs.Runs.{HasAnswered, HasFlushed, HoldsFew, ended_lines, unended}
+use Rattle.engine_lookups.specs.Runs.{HasAnswered, HoldsFew, ended_lines, unended}
 use Rattle.engine_lookups.specs.Taking.{Answers, HeldLine, IsOpen, Leads, StopsBy, StopsIn, first_line}
 use Rattle.engine_lookups.specs.Inputs.{AnswersInput, Ends, EndsBy, FailsAfterRead, FaultsBy, IsAnswered, IsAnsweredSoFar, Proceeds, StopsInput, TurnFails}
 use Rattle.engine_lookups.specs.declared.held.LookupFault.{LookupFault}
 use Rattle.engine_lookups.specs.declared.held.LookupFault.TheVariants.{Read, Write, TooLong, Memory}
 use Rattle.engine_lookups.proofs.LineLemmas.{cut_lines, ended_are, unended_is}
-use Rattle.engine_lookups.proofs.AnswerLemmas.{flushed_first, leads-after, writes-after, writes-none}
+use Rattle.engine_sessions.proofs.WriteLemmas.{flushed_first, writes-after, writes-none}
+use Rattle.engine_lookups.proofs.AnswerLemmas.{leads-after}
 use Rattle.engine_lookups.proofs.TakingLemmas.{answers-after, answers-none, few_ended, open_is, stops-after}
 
 -- no more is held of a line, neither before one of these pieces nor after them, than a line may have

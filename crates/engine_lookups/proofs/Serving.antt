@@ -30,7 +30,8 @@ use Rattle.engine_lookups.specs.Inputs.{AnswersInput, Concludes, StopsInput}
 use Rattle.engine_lookups.specs.declared.held.LookupFault.{LookupFault}
 use Rattle.engine_lookups.specs.declared.held.LookupFault.TheVariants.{Read, Write, TooLong, Memory}
 use Rattle.engine_lookups.proofs.LineLemmas.{cut_lines}
-use Rattle.engine_lookups.proofs.AnswerLemmas.{answered_all, answered_long, answered_short, stopped, writes_taken, writes_well}
+use Rattle.engine_sessions.proofs.WriteLemmas.{writes_taken, writes_well}
+use Rattle.engine_lookups.proofs.AnswerLemmas.{answered_all, answered_long, answered_short, stopped}
 
 three : (line : Text) (status : ℕ) (after now : SinkState) → ReportsFailure line 3 status after now → status ≡ 3
 three line status after now (inl p) = p.0

@@ -13,7 +13,8 @@ use Rattle.engine_lookups.specs.Taking.{Answers, Cut, HeldLine, IsFull, IsOpen, 
 use Rattle.engine_lookups.specs.declared.held.LookupFault.{LookupFault}
 use Rattle.engine_lookups.specs.declared.held.LookupFault.TheVariants.{Read, Write, TooLong, Memory}
 use Rattle.engine_lookups.proofs.LineLemmas.{count-append, count-le, cut-after, cut-byte, cut-line, cut-none, first_ended, first_longer, last_line, none-push}
-use Rattle.engine_lookups.proofs.AnswerLemmas.{leads-after, leads-none, leads-one, long_is, short_is, writes-after, writes-none, writes-one}
+use Rattle.engine_sessions.proofs.WriteLemmas.{writes-after, writes-none, writes-one}
+use Rattle.engine_lookups.proofs.AnswerLemmas.{leads-after, leads-none, leads-one, long_is, short_is}
 
 -- what follows if a call went well, or failed
 pub ok_so : (r : Result (Unit {0}) LookupFault) (P Q : Type 0) → (P → Q) → OnOk r P → OnOk r Q

@@ -3,12 +3,11 @@ use Rattle.std.specs.Prelude.{◌≡◌, ℕ, ◌<◌, ◌≤◌, ◌⊎◌, Lis
 use Rattle.text_bytes.specs.Lines.{lines}
 use Rattle.text_tables.specs.Texts.{Text}
 use Rattle.device_core.specs.RunBlocks.{newline_count}
-use Rattle.engine_ends.specs.Reported.{followed_by}
 use Rattle.engine_ends.specs.Sinks.{BreaksOff, HandsOn, SinkState}
 use Rattle.engine_ends.specs.Streams.{Streams}
 use Rattle.engine_ends.specs.Delivery.{ReportsFailure}
 use Rattle.engine_sessions.specs.Inputs.{BeforeReads, GoesOn, ReadsToFault, ReadsWell}
-use Rattle.engine_sessions.specs.Serves.{Serves, StopsBefore, WritesOut}
+use Rattle.engine_sessions.specs.Serves.{HasFlushed, Serves, StopsBefore, WritesOut}
 use Rattle.engine_sessions.specs.Turns.{joined}
 use Rattle.engine_lookups.specs.Outcomes.{lines_outcome, most_bytes}
 
@@ -19,10 +18,6 @@ ended_lines text = take (newline_count text) (lines text)
 -- what follows the last newline of a text
 abbrev pub unended : Text → Text
 unended text = joined (drop (newline_count text) (lines text))
-
--- A text is flushed, the first of all that was taken since; or it is empty.
-abbrev pub HasFlushed : SinkState → Text → SinkState → Type 0
-HasFlushed before text now = (text ≡ []) ⊎ ((following : Text) × (now.flushed ≡ followed_by before.taken (text ++ following)))
 
 -- The answers to all lines that newlines end in these pieces are flushed.
 abbrev pub HasAnswered : (Text → Text) → List Text → SinkState → SinkState → Type 0

@@ -1,24 +1,12 @@
 -- What `verify` says about rules files.
-use Rattle.std.specs.Prelude.{ℕ, ◌-◌, Bool, true, false, ◌==◌, not, if◌then◌else◌, List, [], ◌++◌, length, codes, decimal, filter, map}
+use Rattle.std.specs.Prelude.{ℕ, ◌-◌, Bool, ◌==◌, not, if◌then◌else◌, List, [], ◌++◌, length, codes, decimal, filter, map}
 use Rattle.std.specs.List.{count_by}
 use Rattle.text_bytes.specs.declared.source_file.SourceFile.{SourceFile}
+use Rattle.file_messages.specs.Messages.{is_style}
 use Rattle.file_messages.specs.declared.message.Message.{Message}
-use Rattle.file_messages.specs.declared.message.MessageKind.{MessageKind}
-use Rattle.file_messages.specs.declared.message.MessageKind.TheVariants.{CommaExpected, BlankExpected, ReadAsAssign, LabelUnused}
-use Rattle.file_messages.specs.declared.message.MessageKind.TheVariants.{LeadingComma, BlankBeforeComma}
 use Rattle.text_tables.specs.Texts.{Text, is_among}
 use Rattle.engine_ends.specs.Delivery.{RunOutcome}
 use Rattle.engine_reports.specs.Messages.{message_lines}
-
--- whether a kind of message is about style: the S messages
-abbrev pub is_style : MessageKind → Bool
-is_style CommaExpected = true
-is_style BlankExpected = true
-is_style ReadAsAssign = true
-is_style LabelUnused = true
-is_style LeadingComma = true
-is_style BlankBeforeComma = true
-is_style _ = false
 
 -- the messages that are given: all, or without style those that are not about it
 unfoldable pub reported : Bool → List Message → List Message

@@ -1,6 +1,6 @@
 //! What `verify` says about rules files.
 ghost use Rattle.std.specs.Prelude.{◌≡◌, ◌<◌, IfOk, IfErr};
-ghost use Rattle.engine_reports.specs.Checks.{is_style, reported, said_of};
+ghost use Rattle.engine_reports.specs.Checks.{reported, said_of};
 ghost use Rattle.engine_reports.specs.Outcomes.{verify_outcome};
 ghost use Rattle.engine_reports.specs.Reports.{IsSaid, said};
 
@@ -10,7 +10,7 @@ use crate::messages::message_lines;
 use crate::refusal::Refusal;
 use crate::report::Report;
 use engine_ends::Line;
-use file_messages::{Message, MessageKind};
+use file_messages::Message;
 use rule_core::rule_messages;
 use std::alloc::{AllocError, Global};
 use text_bytes::{FileKind, Profile, SourceFile};
@@ -54,22 +54,7 @@ fn reported(style: bool, mut messages: Vec<Message>) -> Vec<Message>
     ensures { result.items ≡ reported style messages.items }
 {
     if !style {
-        messages.retain(|message| !is_style(message.kind));
+        messages.retain(|message| !message.kind.is_style());
     }
     messages
-}
-
-/// Whether a kind of message is about style.
-pub fn is_style(kind: MessageKind) -> bool
-    ensures { result ≡ is_style kind }
-{
-    match kind {
-        MessageKind::CommaExpected
-        | MessageKind::BlankExpected
-        | MessageKind::ReadAsAssign
-        | MessageKind::LabelUnused
-        | MessageKind::LeadingComma
-        | MessageKind::BlankBeforeComma => true,
-        _ => false,
-    }
 }

@@ -20,7 +20,7 @@ mod refusal;
 mod report;
 
 pub use answers::answer_lines;
-pub use checks::{is_style, report_on_rules};
+pub use checks::report_on_rules;
 pub use counts::{Named, report_on_files};
 pub use database::{open_database, report_on_query, report_on_update, update_status};
 pub use delivery::{deliver_refusal, deliver_report, deliver_usage_error};

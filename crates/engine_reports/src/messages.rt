@@ -5,7 +5,6 @@ ghost use Rattle.std.specs.Prelude.{◌≡◌, ◌++◌, false, IfOk, OnOk};
 ghost use Rattle.engine_reports.specs.Messages.{heading_of, message_line, message_lines};
 ghost use Rattle.engine_reports.specs.Checks.{reported};
 
-use crate::checks::is_style;
 use engine_ends::{push_place, push_word};
 use file_messages::{Message, MessageKind};
 use std::alloc::{AllocError, Global};
@@ -31,7 +30,7 @@ pub(crate) fn plain_message_lines(
 {
     let mut text = Vec::new(alloc);
     for message in messages {
-        if !is_style(message.kind) {
+        if !message.kind.is_style() {
             push_message(alloc, &mut text, message)?;
         }
     }

@@ -2,6 +2,7 @@ pub mod LawLemmas
 pub mod TurnLemmas
 pub mod AnswerLemmas
 pub mod SendLemmas
+pub mod WriteLemmas
 pub mod Failing
 pub mod KnownLemmas
 pub mod Turns

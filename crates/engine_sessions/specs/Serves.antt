@@ -1,5 +1,5 @@
 -- What a run reads, writes and returns, by its status and step by step.
-use Rattle.std.specs.Prelude.{◌≡◌, ℕ, ◌<◌, ◌≤◌, ◌⊎◌, Bool, List, [], Some, Result, Ok, Err, codes, length}
+use Rattle.std.specs.Prelude.{◌≡◌, ℕ, ◌<◌, ◌≤◌, ◌⊎◌, Bool, List, [], ◌++◌, Some, Result, Ok, Err, codes, length}
 use Rattle.text_tables.specs.Texts.{Text}
 use Rattle.device_core.specs.Values.{EventValue}
 use Rattle.engine_ends.specs.Reported.{followed_by}
@@ -21,6 +21,10 @@ read_failed = codes "devdry: read failed\n"
 -- The sink took and flushed a whole text, and no call failed; or the text is empty, and the sink is as it was.
 abbrev pub WritesOut : SinkState → Text → SinkState → Type 0
 WritesOut before text now = HandsOn before text now ⊎ ((text ≡ []) × (now ≡ before))
+
+-- A text is flushed, the first of all that was taken since; or it is empty.
+abbrev pub HasFlushed : SinkState → Text → SinkState → Type 0
+HasFlushed before text now = (text ≡ []) ⊎ ((following : Text) × (now.flushed ≡ followed_by before.taken (text ++ following)))
 
 -- nothing, or one of the lines on a failure
 abbrev pub IsStatusLine : Text → Type 0

@@ -25,3 +25,4 @@ pub use imports::line_for;
 pub use lookups::look_up;
 pub use reaching::match_reached;
 pub use stored::{is_removal, is_stored_known};
+pub use unread::first_unread;

@@ -26,7 +26,7 @@ fn unread_in<'p>(chain: &Chain<'_>, piece: &'p Piece) -> Option<&'p [u8]>
 
 /// The name of the first such attribute among these pieces.
 #[tactic(auto, unfolding(crate::specs::Unread::first_unread))]
-fn first_unread<'p>(chain: &Chain<'_>, pieces: &'p [Piece]) -> Option<&'p [u8]>
+pub fn first_unread<'p>(chain: &Chain<'_>, pieces: &'p [Piece]) -> Option<&'p [u8]>
     ensures { option_map (λ name. name.now) result ≡ first_unread chain.now pieces.now }
 {
     for piece in pieces {

@@ -55,7 +55,7 @@ pub fn final_key(profile: Profile, change: &Change) -> Option<FinalKey>
 }
 
 /// Whether a key, if there is one, no longer changes.
-pub(crate) fn is_settled(key: Option<FinalKey>, finals: Finals) -> bool
+pub fn is_settled(key: Option<FinalKey>, finals: Finals) -> bool
     ensures { result ≡ is_settled key finals }
 {
     match key {

@@ -99,7 +99,7 @@ fn is_of_node(target: &Target) -> bool
 }
 
 /// Whether udev skips an assignment since the device has no number.
-fn lacks_number(target: &Target, number: Option<&DeviceNumber<'_>>) -> bool
+pub fn lacks_number(target: &Target, number: Option<&DeviceNumber<'_>>) -> bool
     ensures { result ≡ lacks_number target.now (option_copied number.entry) }
 {
     match number {

@@ -6,6 +6,7 @@ ghost use Rattle.text_bytes.specs.Texts.{skip_while};
 ghost use Rattle.eval_rendering.specs.Pieces.{number_as};
 ghost use Rattle.eval_rendering.specs.Words.{from_word, word_at, word_len};
 
+use rule_templates::leading_whitespace;
 use text_bytes::{Profile, is_whitespace};
 use text_links::last_digits;
 
@@ -17,14 +18,6 @@ fn word_len(text: &[u8]) -> usize
     text.iter()
         .take_while(|byte| !is_whitespace(**byte))
         .count()
-}
-
-/// How many bytes of whitespace a text begins with.
-fn leading_whitespace(text: &[u8]) -> usize
-    ensures value { result ≡ prefix_len is_whitespace text.now }
-    ensures within { result ≤ length text.now }
-{
-    text.iter().take_while(|byte| is_whitespace(**byte)).count()
 }
 
 /// A text without the whitespace at its start.

@@ -2,7 +2,7 @@
 //!
 //! A message is kept as what it says and not as text: the texts are made once, where they are written.
 ghost use Rattle.std.specs.Prelude.{◌≡◌, IfOk};
-ghost use Rattle.file_messages.specs.Messages.{message};
+ghost use Rattle.file_messages.specs.Messages.{is_style, message};
 
 use std::alloc::{AllocError, Global};
 use text_bytes::{Bytes, capped, word_of};
@@ -86,6 +86,23 @@ pub enum MessageKind {
     LeadingComma,
     /// S6: a blank comes before a comma.
     BlankBeforeComma,
+}
+
+impl MessageKind {
+    /// Whether it is about style: the S messages.
+    pub fn is_style(self) -> bool
+        ensures { result ≡ is_style self }
+    {
+        matches!(
+            self,
+            MessageKind::CommaExpected
+                | MessageKind::BlankExpected
+                | MessageKind::ReadAsAssign
+                | MessageKind::LabelUnused
+                | MessageKind::LeadingComma
+                | MessageKind::BlankBeforeComma
+        )
+    }
 }
 
 /// A message about a line of a file.

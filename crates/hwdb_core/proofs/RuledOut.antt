@@ -3,6 +3,7 @@ use Rattle.std.proofs.Common.{◌≡◌, ℕ, ◌+◌, zero, ◌≤◌, Bool, tr
 use Rattle.std.specs.List.{position, position_or_len}
 use Rattle.std.proofs.lemmas.Bool.{le-ltb, leb-true}
 use Rattle.text_bytes.specs.Names.{open_bracket, question_mark, star}
+use Rattle.text_core.specs.Fnmatch.{is_special}
 use Rattle.text_core.specs.Fits.{fits}
 use Rattle.text_core.specs.Spell.{first_item, items_at, max_len, spell, spell_by, with_item}
 use Rattle.text_core.specs.declared.glob_fault.GlobFault.{GlobFault}
@@ -10,7 +11,7 @@ use Rattle.text_core.specs.declared.item.Item.{Item}
 use Rattle.text_core.specs.declared.item.Item.TheVariants.{Byte, Many, One}
 use Rattle.text_core.specs.declared.reading.Reading.TheVariants.{Exact}
 use Rattle.hwdb_core.proofs.Finding.{position_none}
-use Rattle.hwdb_core.specs.Ruling.{IsPassed, differs_in_prefix, is_faultless, is_ruled_out, is_special, passes_over}
+use Rattle.hwdb_core.specs.Ruling.{IsPassed, differs_in_prefix, is_faultless, is_ruled_out, passes_over}
 
 -- what is at the front of a text, if its first byte means itself
 plain_first : (at b : ℕ) (t : List ℕ) → is_special b ≡ false → items_at Exact (b ∷ t) zero at ≡ with_item (Byte b) (items_at Exact t zero (at + 1))

@@ -1,14 +1,11 @@
 -- Serves inner proofs only: which matches are known not to fit a modalias before they are read as patterns.
-use Rattle.std.specs.Prelude.{◌≡◌, ℕ, Bool, true, false, not, ◌==◌, ◌||◌, ◌&&◌, nat_le, if◌then◌else◌}
+use Rattle.std.specs.Prelude.{◌≡◌, ℕ, Bool, true, false, not, ◌==◌, ◌&&◌, nat_le, if◌then◌else◌}
 use Rattle.std.specs.Prelude.{List, [], ◌∷◌, length, Option, Some, None, position, is_none, Ok}
-use Rattle.text_bytes.specs.Names.{open_bracket, question_mark, star}
+use Rattle.text_bytes.specs.Names.{open_bracket}
+use Rattle.text_core.specs.Fnmatch.{is_special}
 use Rattle.text_core.specs.Spell.{max_len, spell}
 use Rattle.text_core.specs.declared.item.Item.{Item}
 use Rattle.hwdb_core.specs.Found.{counts}
-
--- whether a byte of a pattern means something other than itself
-abbrev pub is_special : ℕ → Bool
-is_special b = b == star || b == question_mark || b == open_bracket
 
 -- whether a match and a modalias differ before the first byte of the match that means something other than itself, or
 -- one ends where the other goes on

@@ -1,19 +1,13 @@
 //! Which matches are known not to fit a modalias before they are read as patterns: for any one device, most of a
 //! database.
 ghost use Rattle.std.specs.Prelude.{◌≡◌};
-ghost use Rattle.hwdb_core.specs.Ruling.{differs_in_prefix, is_faultless, is_ruled_out, is_special};
+ghost use Rattle.hwdb_core.specs.Ruling.{differs_in_prefix, is_faultless, is_ruled_out};
 
 use text_bytes::find;
+use text_core::is_special;
 
 /// The most bytes of a pattern, as `text_core` reads them.
 const MAX_LEN: usize = 16384;
-
-/// Whether a byte of a pattern means something other than itself.
-fn is_special(byte: u8) -> bool
-    ensures { result ≡ is_special byte }
-{
-    byte == b'*' || byte == b'?' || byte == b'['
-}
 
 /// Whether a match and a modalias differ before the first byte of the match that means something other than itself.
 fn differs_in_prefix(text: &[u8], modalias: &[u8]) -> bool

@@ -5,9 +5,9 @@ ghost use Rattle.hwdb_lints.specs.Forms.{is_capital_digit, is_digit_place, is_he
 ghost use Rattle.hwdb_lints.specs.Forms.{letter_step, match_fault, meeting_of, step_at};
 
 use crate::lint::DatabaseLint;
-use crate::listed::is_among;
 use crate::modaliases::{FIRST_WORDS, MODALIASES, Modalias};
 use text_bytes::{ends_in, find, is_digit};
+use text_tables::is_among;
 
 /// What a byte of a match means for what follows.
 #[derive(Clone, Copy, PartialEq, Eq)]

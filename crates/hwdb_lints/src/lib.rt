@@ -11,7 +11,6 @@ mod forms;
 mod laws;
 mod line_lints;
 mod lint;
-mod listed;
 mod matches;
 mod modaliases;
 mod names;

@@ -6,9 +6,9 @@ ghost use Rattle.text_bytes.specs.Texts.{following};
 ghost use Rattle.hwdb_lints.specs.Values.{are_resolutions, is_axis, is_axis_byte, is_flag, is_integer, is_key, is_key_byte, is_key_name, is_layout};
 ghost use Rattle.hwdb_lints.specs.Values.{is_layout_byte, is_matrix, is_matrix_byte, is_resolution_byte, takes, takes_coded, takes_own, without, word_among};
 
-use crate::listed::is_among;
 use crate::properties::{CHOICES, Choice, FLAGS, INPUT_FLAGS, LAYOUTS, NUMBERS};
-use text_bytes::{following, is_blank, is_digit};
+use text_bytes::{following, has_digits, is_blank, is_digit};
+use text_tables::is_among;
 
 /// Whether a value is `1` or `0`.
 fn is_flag(value: &[u8]) -> bool
@@ -25,13 +25,6 @@ fn without<'t>(prefix: &[u8], text: &'t [u8]) -> &'t [u8]
         Some(rest) => rest,
         None => text,
     }
-}
-
-/// Whether each byte of a text is a digit.
-fn has_digits(text: &[u8]) -> bool
-    ensures { result ≡ list_all is_digit text.now }
-{
-    text.iter().all(|byte| is_digit(*byte))
 }
 
 /// Whether a value is a whole number, which may be negative.

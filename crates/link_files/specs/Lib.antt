@@ -1,3 +1,4 @@
+pub mod Booleans
 pub mod Lines
 pub mod Names
 pub mod Words

@@ -2,7 +2,7 @@
 use Rattle.std.specs.Prelude.{ℕ, ◌-◌, ◌%◌, ◌==◌, ◌||◌, Bool, List, [], ◌∷◌, ◌++◌, length, take, if◌then◌else◌}
 use Rattle.std.specs.List.{suffix_len}
 use Rattle.text_bytes.specs.Names.{backslash, carriage_return, hash, is_blank, newline, space}
-use Rattle.text_bytes.specs.Texts.{begins_with, ends_in, skip_while}
+use Rattle.text_bytes.specs.Texts.{begins_with, ends_in, skip_while, without_last}
 use Rattle.text_tables.specs.Texts.{Text}
 
 -- a space, a tab, a newline or a carriage return
@@ -20,10 +20,6 @@ up_to_end text = take (length text - suffix_len is_space text) text
 -- a text without such bytes at its ends
 unfoldable pub stripped : Text → Text
 stripped text = up_to_end (from_start text)
-
--- a text without its last byte
-abbrev pub without_last : Text → Text
-without_last text = take (length text - 1) text
 
 -- a line without a carriage return at its end
 abbrev pub bare : Text → Text

@@ -2,9 +2,9 @@
 ghost use Rattle.std.specs.Prelude.{◌≡◌, ◌≤◌, ◌==◌, length};
 ghost use Rattle.std.specs.List.{prefix_len, suffix_len};
 ghost use Rattle.text_bytes.specs.Names.{backslash};
-ghost use Rattle.link_files.specs.Lines.{bare, from_start, is_comment, is_continued, is_space, stripped, up_to_end, without_last};
+ghost use Rattle.link_files.specs.Lines.{bare, from_start, is_comment, is_continued, is_space, stripped, up_to_end};
 
-use text_bytes::{begins_with, ends_in, is_blank};
+use text_bytes::{begins_with, ends_in, is_blank, without_last};
 
 /// Whether a byte is a space, a tab, a newline or a carriage return.
 pub(crate) fn is_space(byte: u8) -> bool
@@ -52,13 +52,6 @@ pub fn stripped(text: &[u8]) -> &[u8]
     ensures { result.now ≡ stripped text.now }
 {
     up_to_end(from_start(text))
-}
-
-/// A text without its last byte.
-pub fn without_last(text: &[u8]) -> &[u8]
-    ensures { result.now ≡ without_last text.now }
-{
-    text.split_at(text.len().saturating_sub(1)).0
 }
 
 /// A line without a carriage return at its end.

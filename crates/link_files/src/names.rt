@@ -1,11 +1,10 @@
 //! Which texts may be the name of an interface.
 ghost use Rattle.std.specs.Prelude.{◌≡◌};
 ghost use Rattle.std.specs.List.{list_all};
-ghost use Rattle.text_bytes.specs.Numbers.{is_digit};
 ghost use Rattle.text_tables.specs.Texts.{is_among};
 ghost use Rattle.link_files.specs.Names.{is_interface_name, is_name_byte, reserved};
 
-use text_bytes::is_digit;
+use text_bytes::has_digits;
 
 /// The most bytes of a name.
 const MAX_NAME: usize = 15;
@@ -22,13 +21,6 @@ fn has_name_bytes(text: &[u8]) -> bool
     ensures { result ≡ list_all is_name_byte text.now }
 {
     text.iter().all(|byte| is_name_byte(*byte))
-}
-
-/// Whether a text is all digits.
-fn has_digits(text: &[u8]) -> bool
-    ensures { result ≡ list_all is_digit text.now }
-{
-    text.iter().all(|byte| is_digit(*byte))
 }
 
 /// Whether a text is a name that no interface may have.

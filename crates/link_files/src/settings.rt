@@ -1,16 +1,15 @@
 //! What `.link` files set.
 ghost use Rattle.std.specs.Prelude.{◌≡◌, ◌∷◌, [], List, OnOk, fold, if◌then◌else◌, option_map};
 ghost use Rattle.std.specs.List.{list_all};
-ghost use Rattle.std.specs.Str.{is_utf8};
 ghost use Rattle.text_tables.specs.Texts.{Text};
 ghost use Rattle.link_files.specs.Lines.{joined_from};
 ghost use Rattle.link_files.specs.Settings.{inside, is_section_byte, section_of, unmarked, unread, with_assignment, with_file, with_line};
 ghost use Rattle.link_files.specs.Settings.{with_section, with_setting};
 
-use crate::lines::{bare, is_comment, is_continued, stripped, without_last};
+use crate::lines::{bare, is_comment, is_continued, stripped};
 use std::alloc::{AllocError, Global};
 use std::marker::Model;
-use text_bytes::{Bytes, begins_with, ends_in, first_line, split_once};
+use text_bytes::{Bytes, begins_with, ends_in, first_line, is_utf8, split_once, without_last};
 
 /// A setting: a value of a key in a section.
 #[derive(Drop)]
@@ -51,13 +50,6 @@ fn has_section_bytes(text: &[u8]) -> bool
     ensures { result ≡ list_all is_section_byte text.now }
 {
     text.iter().all(|byte| is_section_byte(*byte))
-}
-
-/// Whether a text is UTF-8.
-pub fn is_utf8(text: &[u8]) -> bool
-    ensures { result ≡ is_utf8 text.now }
-{
-    str::from_utf8(text).is_ok()
 }
 
 /// What is between the first and the last byte of a text.

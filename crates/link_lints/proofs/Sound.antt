@@ -3,11 +3,11 @@ use Rattle.std.proofs.Common.{◌≡◌, ℕ, Bool, true, false, not, cond, List
 use Rattle.std.specs.Str.{is_utf8}
 use Rattle.text_bytes.specs.Lines.{NumberedLine, lines, numbered_from}
 use Rattle.text_bytes.specs.Names.{equals, open_bracket, space}
-use Rattle.text_bytes.specs.Texts.{begins_with, is_empty, split_once}
+use Rattle.text_bytes.specs.Texts.{begins_with, is_empty, split_once, without_last}
 use Rattle.text_bytes.specs.declared.source_file.SourceFile.{SourceFile}
 use Rattle.text_tables.specs.Texts.{Text}
 use Rattle.link_files.specs.Files.{reading_of}
-use Rattle.link_files.specs.Lines.{bare, is_comment, is_continued, joined_from, stripped, without_last}
+use Rattle.link_files.specs.Lines.{bare, is_comment, is_continued, joined_from, stripped}
 use Rattle.link_files.specs.Settings.{ReadingValue, broken, section_of, unmarked, with_assignment, with_file, with_line, with_section}
 use Rattle.link_lints.specs.Faults.{assignment_faults, bad_line, faults_from, file_faults, line_faults, section_after, section_faults}
 use Rattle.link_lints.specs.Joined.{JoinedLine, joined_after, joined_lines, with_part, with_space}

@@ -2,8 +2,9 @@
 use Rattle.std.specs.Prelude.{ℕ, List, [], ◌∷◌, ◌++◌, length, Option, Some, None, option_to_list, if◌then◌else◌}
 use Rattle.text_bytes.specs.Lines.{NumberedLine, numbered_lines}
 use Rattle.text_bytes.specs.Names.{space}
+use Rattle.text_bytes.specs.Texts.{without_last}
 use Rattle.text_tables.specs.Texts.{Text}
-use Rattle.link_files.specs.Lines.{bare, is_comment, is_continued, without_last}
+use Rattle.link_files.specs.Lines.{bare, is_comment, is_continued}
 use Rattle.link_files.specs.Settings.{unmarked}
 
 -- A line that may be put together from several: the number of the first of these, how many bytes that has, and the text.

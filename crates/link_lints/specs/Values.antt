@@ -1,9 +1,9 @@
 -- The values that keys take, as far as they are looked at.
-use Rattle.std.specs.Prelude.{Bool, true, not, ◌&&◌, ◌||◌, List, [], ◌∷◌, map, codes}
-use Rattle.std.specs.Char.{to_ascii_lowercase}
+use Rattle.std.specs.Prelude.{Bool, true, not, ◌&&◌, ◌||◌, List, map}
 use Rattle.std.specs.List.{list_all}
 use Rattle.text_bytes.specs.Texts.{is_empty}
 use Rattle.text_tables.specs.Texts.{Text, is_among}
+use Rattle.link_files.specs.Booleans.{is_no, is_yes}
 use Rattle.link_files.specs.Lists.{is_list}
 use Rattle.link_files.specs.Names.{is_interface_name}
 use Rattle.link_files.specs.Words.{words_of}
@@ -11,22 +11,6 @@ use Rattle.link_files.specs.declared.words.WordKind.TheVariants as words
 use Rattle.link_lints.specs.declared.keys.Form.{Form}
 use Rattle.link_lints.specs.declared.keys.Form.TheVariants as form
 use Rattle.link_lints.specs.declared.keys.TheConstants.{ADDRESS_POLICIES, ALTERNATIVE_POLICIES, DUPLEX, NAME_POLICIES, WAKES}
-
--- the words that mean yes
-abbrev pub yes_words : List Text
-yes_words = codes "1" ∷ codes "yes" ∷ codes "y" ∷ codes "true" ∷ codes "t" ∷ codes "on" ∷ []
-
--- the words that mean no
-abbrev pub no_words : List Text
-no_words = codes "0" ∷ codes "no" ∷ codes "n" ∷ codes "false" ∷ codes "f" ∷ codes "off" ∷ []
-
--- whether a word means yes, in letters of any case
-unfoldable pub is_yes : Text → Bool
-is_yes word = is_among yes_words (map to_ascii_lowercase word)
-
--- whether a word means no
-unfoldable pub is_no : Text → Bool
-is_no word = is_among no_words (map to_ascii_lowercase word)
 
 -- words that are all among these
 abbrev pub are_among : List Text → Text → Bool

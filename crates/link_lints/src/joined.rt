@@ -3,10 +3,10 @@ ghost use Rattle.std.specs.Prelude.{◌≡◌, ◌++◌, ◌∷◌, [], IfOk, Li
 ghost use Rattle.text_bytes.specs.Lines.{NumberedLine};
 ghost use Rattle.link_lints.specs.Joined.{joined_after, joined_lines, with_part, with_space};
 
-use link_files::{bare, is_comment, is_continued, unmarked, without_last};
+use link_files::{bare, is_comment, is_continued, unmarked};
 use std::alloc::{AllocError, Global};
 use std::marker::Model;
-use text_bytes::{Line, Lines};
+use text_bytes::{Line, Lines, without_last};
 
 /// A line that may be put together from several.
 #[derive(Drop)]

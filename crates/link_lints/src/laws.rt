@@ -22,7 +22,7 @@ pub fn faultless_files_are_used()
 {}
 
 /// What is reported for lines, and where: a section, a key, a value and a line as a whole.
-#[tactic(auto, unfolding(crate::specs::Faults::line_faults, crate::specs::Keys::form_of, crate::specs::Values::is_yes, crate::specs::Values::is_no, link_files::specs::Settings::section_of, link_files::specs::Lines::stripped, text_bytes::specs::Texts::split_once))]
+#[tactic(auto, unfolding(crate::specs::Faults::line_faults, crate::specs::Keys::form_of, link_files::specs::Booleans::is_yes, link_files::specs::Booleans::is_no, link_files::specs::Settings::section_of, link_files::specs::Lines::stripped, text_bytes::specs::Texts::split_once))]
 pub fn faults_have_their_places()
     ensures section { is_utf8 (codes "[Matsch]") ≡ true
         → line_faults section.Link (line 3 (codes " [Matsch]")) ≡ of_fault 3 3 9 UnknownSection (codes "Matsch") }
@@ -39,7 +39,7 @@ pub fn faults_have_their_places()
 {}
 
 /// Values that keys take, and some that they don't.
-#[tactic(auto, unfolding(crate::specs::Values::is_yes, crate::specs::Values::is_no, link_files::specs::Lists::is_list, link_files::specs::Names::is_interface_name, link_files::specs::Words::words_of, link_files::specs::Words::split, link_files::specs::Words::is_whole, link_files::specs::Words::split_byte))]
+#[tactic(auto, unfolding(link_files::specs::Booleans::is_yes, link_files::specs::Booleans::is_no, link_files::specs::Lists::is_list, link_files::specs::Names::is_interface_name, link_files::specs::Words::words_of, link_files::specs::Words::split, link_files::specs::Words::is_whole, link_files::specs::Words::split_byte))]
 pub fn keys_take_their_values()
     ensures yes { takes Boolean (codes "Yes") ≡ true }
     ensures number { takes Boolean (codes "2") ≡ false }

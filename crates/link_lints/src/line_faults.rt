@@ -10,9 +10,9 @@ use crate::keys::Form;
 use crate::placed_fault::{PlacedFault, add, add_bad_line, start_of};
 use crate::sections::{Section, form_of, is_extension, is_known, section_named};
 use crate::values::takes;
-use link_files::{is_utf8, section_of, stripped};
+use link_files::{section_of, stripped};
 use std::alloc::{AllocError, Global};
-use text_bytes::{begins_with, split_once};
+use text_bytes::{begins_with, is_utf8, split_once};
 
 /// Adds the fault of a line that begins with `[`, by the name of the section in it.
 fn add_section_faults(

@@ -1,59 +1,14 @@
 //! The values that keys take, as far as they are looked at.
 ghost use Rattle.std.specs.Prelude.{◌≡◌, IfOk, map};
-ghost use Rattle.std.specs.Char.{to_ascii_lowercase};
 ghost use Rattle.std.specs.List.{list_all};
-ghost use Rattle.text_tables.specs.Texts.{is_among, same_text};
-ghost use Rattle.link_lints.specs.Values.{are_among, has_form, is_no, is_yes, takes};
+ghost use Rattle.text_tables.specs.Texts.{is_among};
+ghost use Rattle.link_lints.specs.Values.{are_among, has_form, takes};
 
 use crate::keys::{ADDRESS_POLICIES, ALTERNATIVE_POLICIES, DUPLEX, Form, NAME_POLICIES, WAKES};
-use link_files::{WordKind, is_interface_name, is_list, words_of};
+use link_files::{WordKind, is_interface_name, is_list, is_no, is_yes, words_of};
 use std::alloc::{AllocError, Global};
 use text_bytes::Bytes;
-
-/// Whether a word is one of these.
-fn is_among(known: &[&[u8]], word: &[u8]) -> bool
-    ensures { result ≡ is_among (map (λ k. k.now) known.now) word.now }
-{
-    for other in known {
-        if word == *other {
-            return true;
-        }
-    }
-    false
-}
-
-/// Whether a word is another, in letters of any case.
-fn is_same_word(word: &[u8], other: &[u8]) -> bool
-    ensures { result ≡ same_text (map to_ascii_lowercase word.now) (map to_ascii_lowercase other.now) }
-{
-    word.eq_ignore_ascii_case(other)
-}
-
-/// Whether a word means yes, in letters of any case.
-#[tactic(auto, unfolding(crate::specs::Values::is_yes))]
-fn is_yes(word: &[u8]) -> bool
-    ensures { result ≡ is_yes word.now }
-{
-    is_same_word(word, b"1")
-        || is_same_word(word, b"yes")
-        || is_same_word(word, b"y")
-        || is_same_word(word, b"true")
-        || is_same_word(word, b"t")
-        || is_same_word(word, b"on")
-}
-
-/// Whether a word means no, in letters of any case.
-#[tactic(auto, unfolding(crate::specs::Values::is_no))]
-fn is_no(word: &[u8]) -> bool
-    ensures { result ≡ is_no word.now }
-{
-    is_same_word(word, b"0")
-        || is_same_word(word, b"no")
-        || is_same_word(word, b"n")
-        || is_same_word(word, b"false")
-        || is_same_word(word, b"f")
-        || is_same_word(word, b"off")
-}
+use text_tables::is_among;
 
 /// Whether words are all among these.
 fn all_among(known: &[&[u8]], words: &[Bytes]) -> bool

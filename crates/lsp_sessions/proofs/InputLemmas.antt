@@ -21,7 +21,7 @@ use Rattle.lsp_sessions.specs.declared.sending.SessionFault.{SessionFault}
 use Rattle.lsp_sessions.specs.declared.sending.SessionFault.TheVariants.{Read, Write, Memory}
 use Rattle.lsp_sessions.specs.declared.turning.Next.{Next}
 use Rattle.lsp_sessions.specs.declared.turning.Next.TheVariants.{GoesOn as More, Ends}
-use Rattle.lsp_sessions.proofs.WriteLemmas.{flushed_first, writes-after, writes-none}
+use Rattle.engine_sessions.proofs.WriteLemmas.{flushed_first, writes-after, writes-none}
 use Rattle.lsp_sessions.proofs.TakingLemmas.{exits-after, goes-after, goes-none, stops-after}
 
 module _ {A : Type 0} (server : Server A) where

@@ -1,4 +1,3 @@
-pub mod WriteLemmas
 pub mod TakingLemmas
 pub mod InputLemmas
 pub mod Serving

@@ -21,7 +21,7 @@ use Rattle.lsp_sessions.specs.declared.replying.Exit.{Exit}
 use Rattle.lsp_sessions.specs.declared.replying.Exit.TheVariants.{AfterShutdown, WithoutShutdown}
 use Rattle.lsp_sessions.specs.declared.sending.SessionFault.{SessionFault}
 use Rattle.lsp_sessions.specs.declared.sending.SessionFault.TheVariants.{Read, Write, Memory}
-use Rattle.lsp_sessions.proofs.WriteLemmas.{writes_taken, writes_well}
+use Rattle.engine_sessions.proofs.WriteLemmas.{writes_taken, writes_well}
 
 three : (line : Text) (status : ℕ) (after now : SinkState) → ReportsFailure line 3 status after now → status ≡ 3
 three line status after now (inl p) = p.0

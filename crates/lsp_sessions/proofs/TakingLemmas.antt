@@ -13,7 +13,7 @@ use Rattle.lsp_sessions.specs.Taking.{ExitsIn, GoesBy, Situation, StopsIn, Stops
 use Rattle.lsp_sessions.specs.declared.replying.Exit.{Exit}
 use Rattle.lsp_sessions.specs.declared.sending.SessionFault.{SessionFault}
 use Rattle.lsp_sessions.specs.declared.sending.SessionFault.TheVariants.{Memory}
-use Rattle.lsp_sessions.proofs.WriteLemmas.{writes-after, writes-none}
+use Rattle.engine_sessions.proofs.WriteLemmas.{writes-after, writes-none}
 
 pub led-both : (first second : Text) (later : Said) → led first (led second later) ≡ led (first ++ second) later
 led-both first second later = ap (λ text. record { text = text; exit = later.exit }) (sym (append_assoc first second later.text))

@@ -1,19 +1,14 @@
 -- What a session reads, writes and returns.
-use Rattle.std.specs.Prelude.{◌≡◌, ℕ, ◌⊎◌, List, [], ◌++◌, None, length}
+use Rattle.std.specs.Prelude.{◌≡◌, ℕ, ◌⊎◌, List, None, length}
 use Rattle.text_tables.specs.Texts.{Text}
-use Rattle.engine_ends.specs.Reported.{followed_by}
 use Rattle.engine_ends.specs.Sinks.{HandsOn, SinkState}
 use Rattle.engine_ends.specs.Streams.{Streams}
 use Rattle.engine_ends.specs.Delivery.{ReportsFailure}
 use Rattle.engine_sessions.specs.Inputs.{BeforeReads, GoesOn, ReadsToFault, ReadsWell}
-use Rattle.engine_sessions.specs.Serves.{Serves, StopsBefore}
+use Rattle.engine_sessions.specs.Serves.{HasFlushed, Serves, StopsBefore}
 use Rattle.engine_sessions.specs.Turns.{joined}
 use Rattle.lsp_sessions.specs.Servers.{Server, said_of}
 use Rattle.lsp_sessions.specs.Outcomes.{session_outcome}
-
--- A text is flushed, the first of all that was taken since; or it is empty.
-abbrev pub HasFlushed : SinkState → Text → SinkState → Type 0
-HasFlushed before text now = (text ≡ []) ⊎ ((following : Text) × (now.flushed ≡ followed_by before.taken (text ++ following)))
 
 -- The replies to all items that are complete in these pieces are flushed, and the client exits at none of them.
 pub record HasReplied {A : Type 0} (server : Server A) (read : List Text) (before now : SinkState) : Type 0 where

@@ -40,8 +40,9 @@ pub use draft::Draft;
 pub use fault::RulesFault;
 pub use joined::{JoinedLine, JoinedLines};
 pub use joining::joined_lines;
-pub use line_ends::{abandoned_at, files_as_read, is_too_long};
+pub use line_ends::{abandoned_at, file_as_read, files_as_read, is_too_long};
 pub use names::NamePlace;
+pub use places::{between, following};
 pub use read_set::ReadRules;
 pub use reading::{read_rules, read_rules_as};
 pub use readings::{LandedReading, Reading, read_lines};
@@ -53,5 +54,6 @@ pub use rule_types::{
     UpMatch,
 };
 pub use spot::{Spot, attribute_spot, key_spot, spot_at_key, value_spot};
+pub use style::{commas, has_blank_before_comma};
 pub use sums::sum_of;
 pub use written::WrittenPart;

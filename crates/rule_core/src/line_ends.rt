@@ -25,6 +25,20 @@ pub fn files_as_read(
     }
 }
 
+/// A file as it is read by a profile: for udev with each end of a line as one newline.
+pub fn file_as_read(
+    alloc: Global,
+    profile: Profile,
+    file: SourceFile,
+) -> Result<SourceFile, AllocError>
+    ensures { IfOk result (λ read. read ≡ file_as_read profile file) }
+{
+    match profile {
+        Profile::Manual => Ok(file),
+        Profile::Udev => file_by_udev(alloc, file),
+    }
+}
+
 /// Files as udev reads them.
 fn files_by_udev(alloc: Global, files: Vec<SourceFile>) -> Result<Vec<SourceFile>, AllocError>
     ensures { IfOk result (λ read. read.items ≡ map (file_as_read Udev) files.items) }

@@ -14,7 +14,7 @@ use file_messages::MessageKind;
 use rule_parts::is_read_as_assign;
 use rule_tokens::Token;
 use std::alloc::{AllocError, Global};
-use text_bytes::{Bytes, Profile, ends_in};
+use text_bytes::{Bytes, Profile, ends_in, is_blank};
 
 /// Adds the findings about how a line is written, by the places of its tokens.
 pub(crate) fn add_style(
@@ -183,18 +183,18 @@ fn read_as_assign_kind(profile: Profile) -> MessageKind
 }
 
 /// How many commas a gap has.
-fn commas(gap: &[u8]) -> usize
+pub fn commas(gap: &[u8]) -> usize
     ensures { result ≡ commas gap.now }
 {
     gap.iter().filter(|byte| **byte == b',').count()
 }
 
 /// Whether a gap has a comma and begins with a blank.
-fn has_blank_before_comma(gap: &[u8]) -> bool
+pub fn has_blank_before_comma(gap: &[u8]) -> bool
     ensures { result ≡ has_blank_before_comma gap.now }
 {
     match gap.split_first() {
         None => false,
-        Some((byte, following)) => (*byte == b' ' || *byte == b'\t') && commas(following) != 0,
+        Some((byte, following)) => is_blank(*byte) && commas(following) != 0,
     }
 }

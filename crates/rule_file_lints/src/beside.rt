@@ -5,8 +5,8 @@ ghost use Rattle.rule_value_lints.specs.Texts.{begins_with_one};
 ghost use Rattle.rule_file_lints.specs.Beside.{early_properties, imports_any, is_early, is_open, shared_families};
 
 use rule_core::WrittenPart;
-use rule_lints::is_among;
 use rule_value_lints::begins_with_one;
+use text_tables::is_among;
 
 /// Properties that the kernel sends with an event, or that udev sets before any rule.
 const EARLY_PROPERTIES: [&[u8]; 33] = [

@@ -1,12 +1,10 @@
 //! W15 and W25: rules that change every device, and results that no program gives yet.
 ghost use Rattle.std.specs.Prelude.{◌≡◌, ◌++◌, OnOk, find, option_map};
-ghost use Rattle.std.specs.List.{list_any};
 ghost use Rattle.rule_value_lints.specs.Assignments.{changes_device};
 ghost use Rattle.rule_file_lints.specs.Guarded.{first_spots, has_program, is_result, may_jump, no_result, unguarded};
-ghost use Rattle.rule_file_lints.specs.Matches.{may_end_at};
 
 use crate::file_rule::FileRule;
-use crate::matches::may_end_at;
+use crate::matches::may_end;
 use rule_core::{Spot, WrittenPart};
 use rule_lints::{Lint, add_word};
 use rule_value_lints::{changes_device, has_key};
@@ -44,13 +42,6 @@ fn first_change<'w, 't>(tokens: &'w [WrittenPart<'t>]) -> Option<&'w WrittenPart
     ensures { option_map (λ w. w.now) result ≡ find (λ w. changes_device w.token) tokens.now }
 {
     tokens.iter().find(|written| changes_device(&written.token))
-}
-
-/// Whether a rule may end at one of these tokens.
-fn may_end(tokens: &[WrittenPart<'_>]) -> bool
-    ensures { result ≡ list_any (λ w. may_end_at w.part) tokens.now }
-{
-    tokens.iter().any(|token| may_end_at(&token.part))
 }
 
 /// Whether a rule has a program that gives a result.

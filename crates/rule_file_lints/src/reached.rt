@@ -1,11 +1,9 @@
 //! Rules that no rule leads to.
 ghost use Rattle.std.specs.Prelude.{◌≡◌, ◌++◌, OnOk, option_map};
-ghost use Rattle.std.specs.List.{list_any};
-ghost use Rattle.rule_file_lints.specs.Matches.{may_end_at};
 ghost use Rattle.rule_file_lints.specs.Reached.{first_spot, is_labelled, jumps_to, may_go_on, never_reached};
 
 use crate::file_rule::FileRule;
-use crate::matches::may_end_at;
+use crate::matches::may_end;
 use rule_core::{Spot, WrittenPart, spot_at_key};
 use rule_lints::Lint;
 use std::alloc::{AllocError, Global};
@@ -32,13 +30,6 @@ fn may_go_on(rule: &FileRule<'_, '_>) -> bool
 {
     let draft = rule.draft;
     rule.landing.lost || may_end(&draft.parts)
-}
-
-/// Whether a rule may end at one of these tokens.
-fn may_end(tokens: &[WrittenPart<'_>]) -> bool
-    ensures { result ≡ list_any (λ w. may_end_at w.part) tokens.now }
-{
-    tokens.iter().any(|token| may_end_at(&token.part))
 }
 
 /// Adds a rule without a label, if the rule above jumps to a label for every device.

@@ -8,6 +8,7 @@ use Rattle.file_messages.specs.declared.message.MessageKind.TheVariants.{LineToo
 use Rattle.text_bytes.specs.Texts.{first}
 use Rattle.text_bytes.specs.declared.profile.Profile.TheVariants.{Manual}
 use Rattle.text_bytes.specs.declared.source_file.SourceFile.{SourceFile}
+use Rattle.file_messages.specs.Messages.{is_style}
 use Rattle.rule_tokens.specs.Grammar.{Item, Parts, Placed}
 use Rattle.rule_types.specs.Rules.{Rule}
 use Rattle.rule_types.specs.declared.part.Part.{Part}
@@ -22,7 +23,7 @@ use Rattle.rule_core.specs.Spots.{whole_spot}
 use Rattle.rule_core.specs.Written.{WrittenPart, parts_in, tokens_in}
 use Rattle.rule_core.specs.declared.names.NamePlace.{NamePlace}
 use Rattle.rule_core.specs.declared.spot.Spot.{Spot}
-use Rattle.rule_format.specs.Faults.{is_badly_spaced, is_faultless, is_sound, is_style, is_to_mend, parts_read}
+use Rattle.rule_format.specs.Faults.{is_badly_spaced, is_faultless, is_sound, is_to_mend, parts_read}
 use Rattle.rule_format.specs.Laws.{Correspond, IsAsItWas, but_style, said, with_bytes}
 use Rattle.rule_format.specs.Mended.{mended}
 use Rattle.rule_format.specs.Proposed.{Landed, landed_in}

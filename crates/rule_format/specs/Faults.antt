@@ -1,25 +1,14 @@
 -- Lines of which the commas and blanks are to be mended.
-use Rattle.std.specs.Prelude.{ℕ, Bool, true, false, not, ◌&&◌, List, [], Result, Ok, Err}
+use Rattle.std.specs.Prelude.{ℕ, Bool, false, not, ◌&&◌, List, [], Result, Ok, Err}
 use Rattle.std.specs.List.{list_all}
+use Rattle.file_messages.specs.Messages.{is_style}
 use Rattle.file_messages.specs.declared.message.MessageKind.{MessageKind}
-use Rattle.file_messages.specs.declared.message.MessageKind.TheVariants.{CommaExpected, BlankExpected, ReadAsAssign, LabelUnused}
-use Rattle.file_messages.specs.declared.message.MessageKind.TheVariants.{LeadingComma, BlankBeforeComma}
 use Rattle.rule_jumps.specs.declared.jumps.Landing.{Landing}
 use Rattle.rule_core.specs.Drafts.{Draft}
 use Rattle.rule_core.specs.Rules.{Reading, findings_of}
 use Rattle.rule_core.specs.Written.{WrittenPart, tokens_in}
 use Rattle.rule_core.specs.declared.spot.Spot.{Spot}
 use Rattle.rule_format.specs.Gaps.{is_well_spaced}
-
--- whether a kind of message is about style: the S messages
-abbrev pub is_style : MessageKind → Bool
-is_style CommaExpected = true
-is_style BlankExpected = true
-is_style ReadAsAssign = true
-is_style LabelUnused = true
-is_style LeadingComma = true
-is_style BlankBeforeComma = true
-is_style _ = false
 
 -- whether only style is found about a rule: it has no fault, and its jump has a label
 abbrev pub is_faultless : Draft → Landing → Bool

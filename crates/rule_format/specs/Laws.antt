@@ -4,6 +4,7 @@ use Rattle.std.specs.List.{AllByRecursion, list_all}
 use Rattle.text_bytes.specs.Names.{newline}
 use Rattle.text_bytes.specs.declared.source_file.SourceFile.{SourceFile}
 use Rattle.text_bytes.specs.declared.profile.Profile.TheVariants.{Udev}
+use Rattle.file_messages.specs.Messages.{is_style}
 use Rattle.file_messages.specs.declared.message.Message.{Message}
 use Rattle.file_messages.specs.declared.message.MessageKind.{MessageKind}
 use Rattle.file_messages.specs.declared.message.MessageKind.TheVariants.{CommaExpected, BlankExpected, BlankBeforeComma}
@@ -14,7 +15,7 @@ use Rattle.rule_core.specs.Style.{style_findings}
 use Rattle.rule_core.specs.Written.{WrittenPart, tokens_in}
 use Rattle.rule_core.specs.declared.spot.Spot.{Spot}
 use Rattle.rule_format.specs.Alike.{is_idle}
-use Rattle.rule_format.specs.Faults.{is_sound, is_style, is_to_mend, parts_read}
+use Rattle.rule_format.specs.Faults.{is_sound, is_to_mend, parts_read}
 use Rattle.rule_format.specs.Gaps.{is_well_spaced}
 use Rattle.rule_format.specs.Proposed.{Landed}
 use Rattle.rule_format.specs.Rewritten.{written_between}

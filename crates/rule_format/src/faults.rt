@@ -1,7 +1,8 @@
 //! Lines of which the commas and blanks are to be mended.
 ghost use Rattle.std.specs.Prelude.{◌≡◌};
 ghost use Rattle.std.specs.List.{list_all};
-ghost use Rattle.rule_format.specs.Faults.{is_faultless, is_sound, is_style, is_to_mend};
+ghost use Rattle.file_messages.specs.Messages.{is_style};
+ghost use Rattle.rule_format.specs.Faults.{is_faultless, is_sound, is_to_mend};
 
 use crate::gaps::is_well_spaced;
 use file_messages::MessageKind;
@@ -42,20 +43,5 @@ fn is_faultless(draft: &Draft<'_>, landing: Landing) -> bool
 fn all_style(findings: &[Spot<MessageKind>]) -> bool
     ensures { result ≡ list_all (λ s. is_style s.kind) findings.now }
 {
-    findings.iter().all(|found| is_style(found.kind))
-}
-
-/// Whether a kind of message is about style: the S messages.
-fn is_style(kind: MessageKind) -> bool
-    ensures { result ≡ is_style kind }
-{
-    matches!(
-        kind,
-        MessageKind::CommaExpected
-            | MessageKind::BlankExpected
-            | MessageKind::ReadAsAssign
-            | MessageKind::LabelUnused
-            | MessageKind::LeadingComma
-            | MessageKind::BlankBeforeComma
-    )
+    findings.iter().all(|found| found.kind.is_style())
 }

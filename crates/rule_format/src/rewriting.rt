@@ -3,10 +3,9 @@ ghost use Rattle.std.specs.Prelude.{◌≡◌, ◌++◌, ◌+◌, OnOk, take, dr
 ghost use Rattle.rule_format.specs.Rewritten.{or_blank, rewritten_from, rewritten_line, written_between, written_of};
 ghost use Rattle.rule_format.specs.WholeLines.{indentation, size_of, whole_lines};
 
-use crate::gaps::between;
 use crate::lines::{WholeLine, WholeLines};
 use crate::stretches::Stretch;
-use rule_core::sum_of;
+use rule_core::{between, sum_of};
 use std::alloc::{AllocError, Global};
 
 /// Adds the lines of a joined line, of which these stretches stay, and the comments among them.

@@ -3,8 +3,8 @@ ghost use Rattle.std.specs.Prelude.{◌≡◌, IfOk};
 ghost use Rattle.rule_core.specs.Written.{tokens_in};
 ghost use Rattle.rule_format.specs.Stretches.{stretch_before, stretches, stretches_from};
 
-use crate::gaps::{between, is_good_gap};
-use rule_core::{Span, WrittenPart};
+use crate::gaps::is_good_gap;
+use rule_core::{Span, WrittenPart, between};
 use std::alloc::{AllocError, Global};
 
 /// A part of a line that stays.

@@ -6,10 +6,11 @@ ghost use Rattle.rule_lints.specs.Commands.{asked_command, command_of, first_wor
 ghost use Rattle.rule_lints.specs.Commands.{is_shell_sign, is_shell_word, is_word_end, has_shell_sign};
 ghost use Rattle.rule_lints.specs.Commands.{open_after, program_name, relative_program, run_command, shell_command};
 
-use crate::parts::{change_of, is_among};
+use crate::parts::change_of;
 use crate::texts::{before_first, has_byte, rest_after_last};
 use rule_types::{ActKind, Change, Import, Part, RunType};
 use text_bytes::{begins_with, is_blank, unindented};
+use text_tables::is_among;
 
 /// The shells, by the names of their programs.
 const SHELLS: [&[u8]; 6] = [b"sh", b"ash", b"bash", b"dash", b"ksh", b"zsh"];

@@ -4,10 +4,10 @@ ghost use Rattle.rule_lints.specs.Devices.{asked, group_by_stem, group_in_subsys
 ghost use Rattle.rule_lints.specs.Devices.{group_of_parent, group_of_part, group_of_plain, group_of_up, if_equal, is_kind, is_of_net, is_other};
 ghost use Rattle.rule_lints.specs.Devices.{is_same, number, stranger};
 
-use crate::parts::is_among;
 use crate::texts::{has_byte, rest_after_first};
 use rule_core::{Token, WrittenPart};
 use rule_types::{MatchOperator, Part, PlainKey, UpKey};
+use text_tables::is_among;
 
 /// A kind of devices.
 #[derive(Clone, Copy, PartialEq, Eq)]

@@ -4,9 +4,10 @@ ghost use Rattle.std.specs.List.{list_all, list_any, prefix_len, zip};
 ghost use Rattle.rule_lints.specs.LetterCase.{begin_with, has_small_digit, is_byte_in, is_capital, is_many, is_miswritten, is_small_alias, items_in_place};
 ghost use Rattle.rule_lints.specs.LetterCase.{miswritten, writing_named, writing_of, writing_of_plain, writing_of_up, wrong_case};
 
-use crate::parts::{comparison_of, is_among};
+use crate::parts::comparison_of;
 use rule_types::{Comparison, Part, PlainKey, UpKey};
 use text_core::{Item, Pattern};
+use text_tables::is_among;
 
 /// How the kernel writes a value.
 #[derive(Clone, Copy, PartialEq, Eq)]

@@ -28,5 +28,5 @@ pub use laws::{
 pub use letter_case::{begin_with, is_many};
 pub use lint::Lint;
 pub use lints::{add_word, lints_of_rule};
-pub use parts::{comparison_of, is_among};
+pub use parts::comparison_of;
 pub use texts::{has_byte, rest_after_last};

@@ -1,6 +1,5 @@
 //! What the lints look at in a part of a rule.
-ghost use Rattle.std.specs.Prelude.{◌≡◌, map, option_map};
-ghost use Rattle.text_tables.specs.Texts.{is_among};
+ghost use Rattle.std.specs.Prelude.{◌≡◌, option_map};
 ghost use Rattle.rule_lints.specs.Parts.{change_of, comparison_of, is_equal};
 
 use rule_types::{Change, Comparison, MatchOperator, Part};
@@ -32,16 +31,4 @@ pub(crate) fn is_equal(operator: MatchOperator) -> bool
     ensures { result ≡ is_equal operator }
 {
     matches!(operator, MatchOperator::Equal)
-}
-
-/// Whether a name is one of these.
-pub fn is_among(names: &[&[u8]], name: &[u8]) -> bool
-    ensures { result ≡ is_among (map (λ known. known.now) names.now) name.now }
-{
-    for known in names {
-        if name == *known {
-            return true;
-        }
-    }
-    false
 }

@@ -1,10 +1,10 @@
 //! How a token compares its value, by what the value is.
 ghost use Rattle.std.specs.Prelude.{◌≡◌};
-ghost use Rattle.text_core.specs.Fnmatch.{is_special};
 ghost use Rattle.rule_pairs.specs.Forms.{any_subsystem, compared_form, form_of, has_empty_part, is_act_kind, is_choice, is_pattern, is_subsystem, parts_form};
 
 use rule_parts::is_something;
 use rule_types::{Key, Operator};
+use text_core::is_special;
 
 /// How a token compares its value.
 #[derive(Clone, Copy, PartialEq, Eq)]
@@ -42,13 +42,6 @@ pub(crate) fn is_choice(key: Key, operator: Operator) -> bool
     ensures { result ≡ is_choice key operator }
 {
     operator.compares() && !is_act_kind(key)
-}
-
-/// Whether a byte makes a value a pattern.
-pub(crate) fn is_special(byte: u8) -> bool
-    ensures { result ≡ is_special byte }
-{
-    byte == b'*' || byte == b'?' || byte == b'['
 }
 
 /// The form of what a value is compared with.

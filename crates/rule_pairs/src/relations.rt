@@ -7,9 +7,10 @@ ghost use Rattle.rule_pairs.specs.Relations.{all_part_ways, are_alike, are_disjo
 ghost use Rattle.rule_pairs.specs.Relations.{lacks_words, leave_nothing, part_ways, parts_from_all, same_bool, same_form, same_matter, same_operator};
 ghost use Rattle.rule_pairs.specs.Relations.{same_way, same_words, share_a_word};
 
-use crate::form::{Form, is_special};
+use crate::form::Form;
 use crate::said::Said;
 use rule_types::Operator;
+use text_core::is_special;
 use text_tables::OwnedTexts;
 
 /// Whether two tokens say the same.

@@ -53,7 +53,7 @@ fn after_whitespace(text: &[u8]) -> &[u8]
 }
 
 /// How many bytes of white space a text begins with.
-fn leading_whitespace(text: &[u8]) -> usize
+pub fn leading_whitespace(text: &[u8]) -> usize
     ensures value { result ≡ prefix_len is_whitespace text.now }
     ensures within { result ≤ length text.now }
 {

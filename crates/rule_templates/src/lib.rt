@@ -18,7 +18,7 @@ mod template;
 
 pub use cut::Cut;
 pub use fault::TemplateFault;
-pub use integers::{after_separators, integer_of, is_separator, natural_of};
+pub use integers::{after_separators, integer_of, is_separator, leading_whitespace, natural_of};
 pub use piece::Piece;
 pub use reading::{is_faulty, kept};
 pub use substituted::{has_sign, is_substituted};

@@ -95,3 +95,6 @@ unquote_step escaped text mean after out e =
 
 pub unquote_done : (escaped : Bool) (text out : List ℕ) → meaning_at escaped text ≡ None → out ++ flat_map meaning (pieces_of escaped 0 text) ≡ out
 unquote_done escaped text out e = rw (none_left escaped text e) (append-nil out)
+
+-- what the steps of the loop over a value have shown, and its end
+pub ruleset unquote_steps = (meaning_run, unquote_step, unquote_done, value_step)

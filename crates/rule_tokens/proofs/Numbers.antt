@@ -23,3 +23,6 @@ scan_large base i v digit digits h e l m = rw (scan_step base i v digits h) (rw 
 
 pub scan_other : (base i v : ℕ) (digits : List ℕ) → i < length digits → base ≤ digit_value (get_or digits i 0) → scan base v (drop i digits) ≡ None
 scan_other base i v digits h l = rw (scan_step base i v digits h) (rw (le-ltb (digit_value (get_or digits i 0)) base l) refl)
+
+-- what a step of the loop over digits has shown, and its end
+pub ruleset scan_steps = (scan_over, scan_large, scan_other, scan_done)

@@ -9,7 +9,7 @@ use Rattle.rule_tokens.specs.Grammar.{Parts, Placed, Item, BeginsWithToken, Toke
 use Rattle.rule_tokens.specs.Places.{IsSlice, LiesIn, RisesFrom, AllLie, AllRise}
 use Rattle.rule_tokens.specs.Lines.{items_left, items_from, items_of, is_over}
 use Rattle.rule_tokens.proofs.IsPresent.{rest_is_shorter}
-use Rattle.rule_tokens.proofs.Steps.{left_done, left_given}
+use Rattle.rule_tokens.proofs.Steps.{from_given, from_none, from_only, left_done, left_given}
 
 -- a slice between what comes before and after it
 slice_at : (line before part following : List ℕ) (place : ℕ) → line ≡ before ++ (part ++ following) → length before ≡ place → take (length part) (drop place line) ≡ part
@@ -157,3 +157,6 @@ from_rise start line = left_rise line start (is_over start line)
 
 pub new_lie : (line : List ℕ) → All (LiesIn line) (items_of line)
 new_lie line = from_lie 0 line (omega arith)
+
+-- what is true of the tokens of a line from a place on
+pub ruleset tokens_from = (from_given, from_only, from_none, from_lie, from_rise)

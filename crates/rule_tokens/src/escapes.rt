@@ -116,7 +116,7 @@ fn number_of(text: &[u8], base: u32, count: usize) -> Option<u32>
 }
 
 /// The number that the digits write, if it is at most 10FFFF.
-#[tactic(auto, using(crate::proofs::Numbers::scan_over, crate::proofs::Numbers::scan_large, crate::proofs::Numbers::scan_other, crate::proofs::Numbers::scan_done))]
+#[tactic(auto, using(crate::proofs::Numbers::scan_steps))]
 fn scanned(digits: &[u8], base: u32) -> Option<u32>
     requires least { 2 ≤ base }
     requires most { base ≤ 16 }

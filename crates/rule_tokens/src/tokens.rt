@@ -52,7 +52,7 @@ impl<'a> Tokens<'a> {
 
     /// The tokens of a line from a place on, as in `new`; if the line ends at a place after its start, there are
     /// none. Here too, a place is counted from the start of the line.
-    #[tactic(auto, using(crate::proofs::Steps::from_given, crate::proofs::Steps::from_only, crate::proofs::Steps::from_none, crate::proofs::PlaceLemmas::from_lie, crate::proofs::PlaceLemmas::from_rise))]
+    #[tactic(auto, using(crate::proofs::PlaceLemmas::tokens_from))]
     pub fn from_place(line: &'a [u8], start: usize) -> Tokens<'a>
         requires { start ≤ length line.now }
         // The items are tokens of the line from there on, up to its end.

@@ -25,7 +25,7 @@ fn push_meaning(out: &mut Vec<u8>, meaning: Meaning) -> Result<(), AllocError>
 }
 
 /// What the pieces at the front of a text mean.
-#[tactic(auto, using(crate::proofs::Loops::meaning_run, crate::proofs::Loops::unquote_step, crate::proofs::Loops::unquote_done, crate::proofs::Loops::value_step))]
+#[tactic(auto, using(crate::proofs::Loops::unquote_steps))]
 fn meaning_of(alloc: Global, escaped: bool, text: &[u8]) -> Result<Vec<u8>, AllocError>
     ensures { IfOk result (λ v. v.items ≡ flat_map meaning (pieces_of escaped 0 text.now)) }
 {

@@ -79,7 +79,7 @@ pub fn builtin_of(text: &[u8]) -> Option<Builtin>
 }
 
 /// The first word of a text, empty if the text has none.
-fn first_word(text: &[u8]) -> &[u8]
+pub fn first_word(text: &[u8]) -> &[u8]
     ensures { result.now ≡ first_word text.now }
 {
     let words = after_separators(text);

@@ -17,7 +17,7 @@ mod types;
 mod written;
 mod written_parts;
 
-pub use builtins::{Builtin, builtin_of};
+pub use builtins::{Builtin, builtin_of, first_word};
 pub use keys::{Key, key_of};
 pub use modes::mode_of;
 pub use operators::{is_add_or_final, is_read_as_assign, read_as};

@@ -11,8 +11,8 @@ use crate::tables::{
 use crate::texts::has_name;
 use crate::values::is_constant;
 use rule_core::WrittenPart;
-use rule_lints::is_among;
 use rule_tokens::{Operator, Token};
+use text_tables::is_among;
 
 /// The keys of tags.
 const TAG_KEYS: [&[u8]; 2] = [b"TAG", b"TAGS"];

@@ -7,9 +7,9 @@ ghost use Rattle.rule_value_lints.specs.Near.{common, differs_at_start, first_ne
 ghost use Rattle.rule_value_lints.specs.Near.{known_property, near_one};
 
 use crate::tables::{ATTRIBUTE_NAMES, PROPERTY_NAMES, USB_NAMES};
-use rule_lints::is_among;
 use rule_tokens::Token;
 use text_bytes::begins_with;
+use text_tables::is_among;
 
 /// The least length of a name that others may be one byte off.
 const LONG: usize = 8;

@@ -3,8 +3,8 @@ ghost use Rattle.std.specs.Prelude.{◌≡◌};
 ghost use Rattle.rule_value_lints.specs.Kernel.{subject_named, subject_of, subject_of_plain, subject_of_up};
 
 use crate::tables::{FOUR_DIGIT_NAMES, TWO_DIGIT_NAMES};
-use rule_lints::is_among;
 use rule_types::{Part, PlainKey, UpKey};
+use text_tables::is_among;
 
 /// What a match looks at, if its texts are known.
 #[derive(Clone, Copy, PartialEq, Eq)]

@@ -2,8 +2,8 @@
 ghost use Rattle.std.specs.Prelude.{◌≡◌, map, option_map};
 ghost use Rattle.rule_value_lints.specs.Texts.{begins_with_one, has_name, has_one, is_named};
 
-use rule_lints::is_among;
 use rule_tokens::Token;
+use text_tables::is_among;
 
 /// Whether a text begins with one of these.
 pub fn begins_with_one(names: &[&[u8]], text: &[u8]) -> bool

@@ -47,6 +47,10 @@ unindented text = skip_while is_blank text
 abbrev pub trimmed : List ℕ → List ℕ
 trimmed text = take (length text - suffix_len is_whitespace text) text
 
+-- a text without its last byte
+abbrev pub without_last : List ℕ → List ℕ
+without_last text = take (length text - 1) text
+
 -- what comes before the first such byte of a text, and what comes after it
 unfoldable pub split_once : ℕ → List ℕ → Option (List ℕ × List ℕ)
 split_once byte text = option_map (λ n. (take n text, drop (n + 1) text)) (position (λ b. b == byte) text)

@@ -5,6 +5,7 @@
 #![tactic(auto)]
 
 mod bytes;
+mod characters;
 mod escapes;
 mod file_order;
 mod lines;
@@ -15,14 +16,15 @@ mod source_file;
 mod texts;
 
 pub use bytes::Bytes;
+pub use characters::{has_control, is_utf8, small};
 pub use escapes::{escape, escaped_byte};
 pub use file_order::order_files;
 pub use lines::{Line, Lines, first_line};
-pub use numbers::{capped, decimal_below, is_digit};
+pub use numbers::{capped, decimal_below, has_digits, is_decimal, is_digit, is_hexadecimal};
 pub use profile::Profile;
 pub use search::find;
 pub use source_file::{FileKind, SourceFile};
 pub use texts::{
     begins_with, ends_in, following, is_blank, is_whitespace, split_once, trimmed, unindented,
-    word_of,
+    without_last, word_of,
 };

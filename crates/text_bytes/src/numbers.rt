@@ -1,12 +1,35 @@
 //! Numbers in decimal digits, and the numbers of lines.
 ghost use Rattle.std.specs.Prelude.{◌≡◌, ◌≤◌, ◌<◌, ◌^◌, IfSome};
-ghost use Rattle.text_bytes.specs.Numbers.{capped, decimal_below, is_digit};
+ghost use Rattle.std.specs.Char.{is_ascii_hexdigit};
+ghost use Rattle.std.specs.List.{list_all};
+ghost use Rattle.text_bytes.specs.Numbers.{capped, decimal_below, is_decimal, is_digit};
 
 /// Whether a byte is one of the digits `0` to `9`.
 pub fn is_digit(byte: u8) -> bool
     ensures { result ≡ is_digit byte }
 {
     b'0' <= byte && byte <= b'9'
+}
+
+/// Whether each byte of a text is a digit.
+pub fn has_digits(text: &[u8]) -> bool
+    ensures { result ≡ list_all is_digit text.now }
+{
+    text.iter().all(|byte| is_digit(*byte))
+}
+
+/// Whether a text is one digit or more, and nothing else.
+pub fn is_decimal(text: &[u8]) -> bool
+    ensures { result ≡ is_decimal text.now }
+{
+    !text.is_empty() && has_digits(text)
+}
+
+/// Whether each byte of a text is a hexadecimal digit.
+pub fn is_hexadecimal(text: &[u8]) -> bool
+    ensures { result ≡ list_all is_ascii_hexdigit text.now }
+{
+    text.iter().all(|byte| byte.is_ascii_hexdigit())
 }
 
 /// The number that a text of one decimal digit or more writes, if it is below a bound. Leading zeros count for

@@ -2,7 +2,7 @@
 ghost use Rattle.std.specs.Prelude.{◌≡◌, ◌≤◌, ◌<◌, ◌+◌, length, option_map, IfSome};
 ghost use Rattle.std.specs.List.{prefix_len, suffix_len};
 ghost use Rattle.text_bytes.specs.Names.{is_blank, is_whitespace};
-ghost use Rattle.text_bytes.specs.Texts.{begins_with, ends_in, following, split_once, trimmed, unindented, word_of};
+ghost use Rattle.text_bytes.specs.Texts.{begins_with, ends_in, following, split_once, trimmed, unindented, without_last, word_of};
 
 use crate::search::find;
 
@@ -49,6 +49,13 @@ pub fn ends_in(byte: u8, text: &[u8]) -> bool
         None => false,
         Some(last) => *last == byte,
     }
+}
+
+/// A text without its last byte.
+pub fn without_last(text: &[u8]) -> &[u8]
+    ensures { result.now ≡ without_last text.now }
+{
+    text.split_at(text.len().saturating_sub(1)).0
 }
 
 /// A text without the spaces and tabs at its start.

@@ -132,10 +132,16 @@ pub(crate) fn read_part(
     }
 }
 
-/// Whether a text has a byte that makes all its parts patterns: a star, a question mark or a `[`.
+/// Whether a byte makes a text a pattern: a star, a question mark or a `[`.
+pub fn is_special(byte: u8) -> bool
+    ensures { result ≡ is_special byte }
+{
+    byte == b'*' || byte == b'?' || byte == b'['
+}
+
+/// Whether a text has a byte that makes all its parts patterns.
 pub(crate) fn has_special(text: &[u8]) -> bool
     ensures { result ≡ list_any is_special text.now }
 {
-    text.iter()
-        .any(|byte| *byte == b'*' || *byte == b'?' || *byte == b'[')
+    text.iter().any(|byte| is_special(*byte))
 }

@@ -24,6 +24,7 @@ mod symbols;
 
 pub use byte_set::ByteSet;
 pub use choice::Choice;
+pub use fnmatch::is_special;
 pub use glob_fault::GlobFault;
 pub use item::Item;
 pub use packed::PackedPattern;

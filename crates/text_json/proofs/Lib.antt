@@ -1,3 +1,2 @@
 pub mod Listed
 mod ReadBack
-mod Utf8

@@ -1,6 +1,5 @@
 //! Any bytes as a string of JSON.
 ghost use Rattle.std.specs.Prelude.{◌≡◌, ◌++◌, ◌∷◌, [], flat_map, IfOk, OnOk, string_bytes};
-ghost use Rattle.std.specs.Str.{is_utf8};
 ghost use Rattle.std.specs.Str.Lossy.{replacement_bytes};
 ghost use Rattle.text_bytes.specs.Escapes.{hex_digit};
 ghost use Rattle.json.specs.Token as token;
@@ -8,20 +7,13 @@ ghost use Rattle.text_json.specs.Told.{is_itself, stands, told_byte, told_text};
 
 use json::Writer;
 use std::alloc::{AllocError, Global};
-use std::str;
+use text_bytes::is_utf8;
 
 /// U+FFFD, by which Unicode marks what it has no character for.
 const MARK: [u8; 3] = [0xEF, 0xBF, 0xBD];
 
 /// The upper case hexadecimal digits.
 const DIGITS: [u8; 16] = *b"0123456789ABCDEF";
-
-/// Whether a text is UTF-8.
-fn is_utf8(text: &[u8]) -> bool
-    ensures { result ≡ is_utf8 text.now }
-{
-    str::from_utf8(text).is_ok()
-}
 
 /// Whether a text stands for itself.
 fn is_itself(text: &[u8]) -> bool

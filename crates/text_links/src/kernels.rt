@@ -9,7 +9,7 @@ use std::alloc::{AllocError, Global};
 use text_bytes::{Bytes, is_digit};
 
 /// How many bytes follow the last slash of a path.
-fn last_component_len(path: &[u8]) -> usize
+pub fn last_component_len(path: &[u8]) -> usize
     ensures value { result ≡ suffix_len (λ b. not (b == slash)) path.now }
     ensures within { result ≤ length path.now }
 {
@@ -45,7 +45,7 @@ pub fn kernel_name(alloc: Global, path: &[u8]) -> Result<Bytes, AllocError>
 }
 
 /// How many digits a text ends in.
-fn trailing_digits(text: &[u8]) -> usize
+pub fn trailing_digits(text: &[u8]) -> usize
     ensures value { result ≡ suffix_len is_digit text.now }
     ensures within { result ≤ length text.now }
 {

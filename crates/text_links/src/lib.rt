@@ -10,6 +10,6 @@ mod underscores;
 
 pub use characters::{no_character_has_these_numbers, value_safe};
 pub use encodings::{encoded, encoded_is_read_back};
-pub use kernels::{kernel_name, last_component, last_digits};
+pub use kernels::{kernel_name, last_component, last_component_len, last_digits, trailing_digits};
 pub use safe::{attribute_safe, link_safe};
 pub use underscores::{Word, underscored};

@@ -6,6 +6,7 @@
 //! all. The crate is small on purpose, so that it is checked quickly.
 #![tactic(auto)]
 
+mod among;
 mod cow_pairs;
 mod headed_names;
 mod laws;
@@ -16,6 +17,7 @@ mod sorted_pairs;
 mod table;
 mod texts;
 
+pub use among::{is_among, is_name_among};
 pub use cow_pairs::CowPairs;
 pub use laws::{
     added_texts_are_there, names_have_values, new_names_come_last, new_texts_come_last,

@@ -1,6 +1,6 @@
 use Rattle.std.proofs.Common.{◌∙◌}
 use Rattle.text_tables.specs.Texts.{same_text}
-use Rattle.devdry_notes.proofs.Seen.{any_seen}
+use Rattle.text_bytes.proofs.Seen.{any_seen}
 use Rattle.devdry.proofs.piping.is_among.Goals as goal
 
 pub returns : goal.returns

@@ -4,7 +4,7 @@ use Rattle.std.specs.Str.{is_utf8}
 use Rattle.std.proofs.lemmas.Str.{is_utf8-from_IsUtf8}
 use Rattle.builtin_knowledge.specs.declared.root_files.RootFile.{RootFile}
 use Rattle.devdry_imports.specs.Reading.{IsFound}
-use Rattle.devdry_imports.proofs.Utf8.{not_utf8}
+use Rattle.text_bytes.proofs.Utf8.{not_utf8}
 use Rattle.devdry_imports.proofs.reading.found_below.Goals as goal
 
 pub returns-in_ok-whole-in-Ok : goal.returns-in_ok-whole-in-Ok

@@ -1,7 +1,7 @@
 use Rattle.std.proofs.Common.{Bor, List, ℕ, ap, ◌∙◌}
 use Rattle.std.specs.List.{list_any}
 use Rattle.devdry_notes.specs.Lying.{may_ask}
-use Rattle.devdry_notes.proofs.Seen.{any_seen}
+use Rattle.text_bytes.proofs.Seen.{any_seen}
 use Rattle.devdry_notes.proofs.lying.is_asked.Goals as goal
 
 pub returns : goal.returns

@@ -1,6 +1,6 @@
 use Rattle.std.proofs.Common.{◌∙◌}
 use Rattle.devdry_options.specs.Words.{has_value_of}
-use Rattle.devdry_options.proofs.Seen.{any_seen}
+use Rattle.text_bytes.proofs.Seen.{any_seen}
 use Rattle.devdry_options.proofs.words.has_value_of_one.Goals as goal
 
 pub returns : goal.returns

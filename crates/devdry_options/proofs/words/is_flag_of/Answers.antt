@@ -1,6 +1,6 @@
 use Rattle.std.proofs.Common.{◌∙◌}
 use Rattle.devdry_options.specs.Words.{is_flag}
-use Rattle.devdry_options.proofs.Seen.{any_seen}
+use Rattle.text_bytes.proofs.Seen.{any_seen}
 use Rattle.devdry_options.proofs.words.is_flag_of.Goals as goal
 
 pub returns : goal.returns

@@ -1,6 +1,6 @@
 use Rattle.std.proofs.Common.{not}
 use Rattle.devdry_words.specs.Refusals.{is_addable}
-use Rattle.devdry_words.proofs.Unknown.{found_seen}
+use Rattle.devdry_words.proofs.Found.{found_seen}
 use Rattle.devdry_words.proofs.added.first_unaddable.Goals as goal
 
 pub returns : goal.returns

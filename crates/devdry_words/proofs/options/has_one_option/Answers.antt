@@ -1,7 +1,7 @@
 use Rattle.std.proofs.Common.{◌∙◌}
 use Rattle.clap.specs.Words.{found_of, rows_of}
 use Rattle.devdry_words.specs.Options.{has_option}
-use Rattle.devdry_words.proofs.Seen.{any_seen}
+use Rattle.text_bytes.proofs.Seen.{any_seen}
 use Rattle.devdry_words.proofs.options.has_one_option.Goals as goal
 
 pub returns : goal.returns

@@ -1,6 +1,6 @@
 use Rattle.std.proofs.Common.{◌∙◌}
 use Rattle.devdry_words.specs.Lines.{is_input}
-use Rattle.devdry_words.proofs.Seen.{any_seen}
+use Rattle.text_bytes.proofs.Seen.{any_seen}
 use Rattle.devdry_words.proofs.piped.has_input_among.Goals as goal
 
 pub returns : goal.returns

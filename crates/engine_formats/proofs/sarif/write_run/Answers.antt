@@ -2,7 +2,7 @@ use Rattle.std.proofs.Common.{◌∷◌, [], codes, map}
 use Rattle.json.specs.Token as token
 use Rattle.json.specs.Tree.{json_tokens}
 use Rattle.engine_formats.specs.Fingerprints.{shown_given}
-use Rattle.engine_formats.specs.Json.{array_of}
+use Rattle.text_json.specs.Values.{array_of}
 use Rattle.engine_formats.specs.Sarif.{result_object, tool_object}
 use Rattle.engine_formats.proofs.Issues.{seven_parts}
 use Rattle.engine_formats.proofs.sarif.write_run.Goals as goal

@@ -1,5 +1,5 @@
 use Rattle.std.proofs.Common.{◌≡◌, take, filter, not}
-use Rattle.engine_reports.specs.Checks.{is_style}
+use Rattle.file_messages.specs.Messages.{is_style}
 use Rattle.engine_reports.specs.Messages.{message_lines}
 use Rattle.engine_reports.proofs.messages.plain_message_lines.Given as goal
 

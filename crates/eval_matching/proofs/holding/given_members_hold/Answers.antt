@@ -1,6 +1,6 @@
 use Rattle.text_core.specs.Choices.{choice_fits}
 use Rattle.eval_matching.specs.Holding.{holds}
-use Rattle.eval_matching.proofs.Members.{any_seen}
+use Rattle.text_bytes.proofs.Seen.{any_seen}
 use Rattle.eval_matching.proofs.holding.given_members_hold.Goals as goal
 
 pub returns : goal.returns

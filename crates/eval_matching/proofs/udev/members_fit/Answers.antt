@@ -1,7 +1,7 @@
 use Rattle.std.proofs.Common.{◌||◌, map, ap, sym, ◌∙◌}
 use Rattle.std.specs.List.{list_any}
 use Rattle.text_core.specs.Choices.{choice_fits}
-use Rattle.eval_matching.proofs.Members.{any_seen}
+use Rattle.text_bytes.proofs.Seen.{any_seen}
 use Rattle.eval_matching.proofs.udev.members_fit.Goals as goal
 
 pub returns-else-is_something : goal.returns-else-is_something

@@ -5,3 +5,7 @@ pub mod Holding
 pub mod Landing
 pub mod Reaching
 pub mod Starting
+pub mod Moving
+pub mod Cutting
+pub mod Placing
+pub mod Editing

@@ -1,5 +1,6 @@
 pub mod Units
 pub mod Starts
+pub mod Whole
 pub mod Rows
 pub mod Places
 pub mod ChangeValues

@@ -1,5 +1,6 @@
 -- The rows of a text, and the places in them.
-use Rattle.std.specs.Prelude.{ℕ, ◌+◌, ◌-◌, ◌==◌, Bool, not, ◌||◌, nat_le, List, ◌∷◌, length, take, drop, take_while, count_by, map, slice_index_or}
+use Rattle.std.specs.Prelude.{ℕ, ◌+◌, ◌-◌, ◌==◌, Bool, not, ◌||◌, nat_le, List, ◌∷◌}
+use Rattle.std.specs.Prelude.{length, take, drop, take_while, count_by, map, slice_index_or}
 use Rattle.text_bytes.specs.Names.{carriage_return, newline}
 use Rattle.text_bytes.specs.Numbers.{capped}
 use Rattle.text_tables.specs.Texts.{Text}

@@ -1,6 +1,6 @@
 //! Changes of a text.
 ghost use Rattle.std.specs.Prelude.{◌≡◌, ◌≤◌, length, IfOk};
-ghost use Rattle.lsp_texts.specs.Changes.{all_changed, changed, replaced};
+ghost use Rattle.lsp_texts.specs.Changes.{changed, replaced};
 
 use crate::counting::Encoding;
 use crate::rows::{Position, Rows};
@@ -82,20 +82,4 @@ pub fn changed(
             replaced(alloc, text, from, to, change.text())
         }
     }
-}
-
-/// A text after changes, one after another.
-pub fn all_changed(
-    alloc: Global,
-    encoding: Encoding,
-    text: &[u8],
-    changes: &[Change<'_>],
-) -> Result<Bytes, AllocError>
-    ensures { IfOk result (λ after. after ≡ all_changed encoding text.now changes.now) }
-{
-    let mut after = Bytes::copy_of(alloc, text)?;
-    for change in changes {
-        after = changed(alloc, encoding, after.as_slice(), change)?;
-    }
-    Ok(after)
 }

@@ -7,12 +7,15 @@
 mod changes;
 mod counting;
 mod documents;
+mod edited;
 mod laws;
 mod rows;
+mod whole_rows;
 
-pub use changes::{Change, all_changed, changed};
+pub use changes::{Change, changed};
 pub use counting::{Encoding, fitting, units};
 pub use documents::{Document, Documents, MAX_BYTES, MAX_DOCUMENTS};
+pub use edited::all_changed;
 pub use laws::{
     changes_keep_utf8, changes_of_a_text, documents_are_bounded, documents_are_found,
     empty_changes_change_nothing, most_that_fits, places_are_in_their_rows, places_come_back,

@@ -39,7 +39,7 @@ impl<'t> Model for Rows<'t> {
 }
 
 /// Whether a row ends after the byte at a place.
-fn ends_row(text: &[u8], at: usize) -> bool
+pub(crate) fn ends_row(text: &[u8], at: usize) -> bool
     requires { at < length text.now }
     ensures { result ≡ ends_row (slice_index text.now at) (drop (at + 1) text.now) }
 {

@@ -10,7 +10,6 @@ ghost use Rattle.lsp_labels.specs.Symbols.{symbol, symbols_of};
 ghost use Rattle.lsp_labels.specs.declared.symbols.SymbolKind.TheVariants.{Rule, Label, Record};
 
 /// The marks of a document whose second rule is written over two rows; a comment has none.
-#[tactic(auto, unfolding(crate::specs::Rows::items_in, crate::specs::Marks::mark_kind, crate::specs::Marks::marks_in, crate::specs::Marks::marks_of, rule_tokens::specs::Lines::items_after, rule_tokens::specs::Lines::items_within, rule_tokens::specs::Lines::items_left, rule_tokens::specs::Grammar::prefix_quote, rule_tokens::specs::Reading::key_at, rule_tokens::specs::Reading::closed_at, rule_tokens::specs::Reading::attribute_at, rule_tokens::specs::Reading::operator_at, rule_tokens::specs::Reading::head_at, rule_tokens::specs::Reading::quote_at, rule_tokens::specs::Reading::token_at, rule_tokens::specs::Reading::piece_at, rule_tokens::specs::Reading::pieces_of))]
 pub fn marks_of_a_document()
     ensures { marks_of (codes "# GOTO=\"end\"" ∷ codes "KERNEL!=\"sd*\", GOTO=\"end\""
         ∷ codes "TAG+=\"a\", \\" ∷ codes "  , GOTO = \"end\"" ∷ codes "LABEL=\"end\"" ∷ [])
@@ -19,7 +18,6 @@ pub fn marks_of_a_document()
 
 /// The marks of single rows: a name is as it is written, nothing is read after a part that is no token, and other operators
 /// and braces make no marks.
-#[tactic(auto, unfolding(crate::specs::Rows::items_in, crate::specs::Marks::mark_kind, crate::specs::Marks::marks_in, crate::specs::Marks::marks_of, rule_tokens::specs::Lines::items_after, rule_tokens::specs::Lines::items_within, rule_tokens::specs::Lines::items_left, rule_tokens::specs::Grammar::prefix_quote, rule_tokens::specs::Reading::key_at, rule_tokens::specs::Reading::closed_at, rule_tokens::specs::Reading::attribute_at, rule_tokens::specs::Reading::operator_at, rule_tokens::specs::Reading::head_at, rule_tokens::specs::Reading::quote_at, rule_tokens::specs::Reading::token_at, rule_tokens::specs::Values::letter_means, rule_tokens::specs::Reading::escape_first, rule_tokens::specs::Reading::piece_at, rule_tokens::specs::Reading::pieces_of))]
 pub fn marks_of_rows()
     ensures escaped { marks_in 0 1 (codes "LABEL=e\"a\\n\"") ≡ label 0 1 8 11 (codes "a\\n") ∷ [] }
     ensures faulty { marks_in 0 1 (codes "GOTO=\"a\", =\"b\", GOTO=\"c\"") ≡ goto 0 1 6 7 (codes "a") ∷ [] }
@@ -47,7 +45,6 @@ pub fn marks_at_places()
 {}
 
 /// The outline of a rules file: a rule is named by its matches, by itself if it has none, or by its label.
-#[tactic(auto, unfolding(crate::specs::Rows::items_in, crate::specs::Marks::mark_kind, crate::specs::Symbols::begun_rule, crate::specs::Symbols::label_of, crate::specs::Symbols::matched, crate::specs::Symbols::symbols_of, rule_tokens::specs::Lines::items_after, rule_tokens::specs::Lines::items_within, rule_tokens::specs::Lines::items_left, rule_tokens::specs::Grammar::prefix_quote, rule_tokens::specs::Reading::key_at, rule_tokens::specs::Reading::closed_at, rule_tokens::specs::Reading::attribute_at, rule_tokens::specs::Reading::operator_at, rule_tokens::specs::Reading::head_at, rule_tokens::specs::Reading::quote_at, rule_tokens::specs::Reading::token_at, rule_tokens::specs::Reading::piece_at, rule_tokens::specs::Reading::pieces_of))]
 pub fn outline_of_rules()
     ensures { symbols_of Rules (codes "# disks" ∷ [] ∷ codes "KERNEL!=\"sd*\", GOTO=\"end\"" ∷ codes "SUBSYSTEM==\"block\" ATTR{size}!=\"0\", \\"
         ∷ codes "  ENV{a}==\"1\"" ∷ codes " TAG+=\"b\" \\" ∷ codes "# c" ∷ codes "ENV{a}==\"1\"" ∷ codes "KERNEL==\"a\", LABEL=\"end\"" ∷ [])

@@ -9,7 +9,6 @@ ghost use Rattle.lsp_words.specs.declared.kinds.WordKind.TheVariants.{Action, At
 ghost use Rattle.lsp_words.specs.declared.kinds.WordKind.TheVariants.{Match, Operator, Property, RuleOption, Substitution};
 
 /// Outside quotes a word is a key or an operator, and in a key's braces it is what that key takes.
-#[tactic(auto, unfolding(crate::specs::Slots::slot_of, crate::specs::Contexts::step, crate::specs::Contexts::next_move, crate::specs::Contexts::bounds_for, crate::specs::Classes::class_of, rule_types::specs::Names::key_of))]
 pub fn keys_and_braces_are_completed()
     ensures nothing { slot_of Rules (codes "") ≡ Some (word Key 0) }
     ensures key { slot_of Rules (codes "SUB") ≡ Some (word Key 0) }
@@ -23,7 +22,6 @@ pub fn keys_and_braces_are_completed()
 {}
 
 /// In a value a word is what the key takes there; a substitution begins at its sign.
-#[tactic(auto, unfolding(crate::specs::Slots::slot_of, crate::specs::Contexts::step, crate::specs::Contexts::next_move, crate::specs::Contexts::bounds_for, crate::specs::Classes::class_of, crate::specs::Values::substitutes, crate::specs::Values::is_split, rule_types::specs::Names::key_of, rule_types::specs::Names::import_type_of))]
 pub fn values_are_completed()
     ensures builtin { slot_of Rules (codes "IMPORT{builtin}=\"") ≡ Some (word Builtin 17) }
     ensures option { slot_of Rules (codes "OPTIONS+=\"") ≡ Some (word RuleOption 10) }
@@ -35,7 +33,6 @@ pub fn values_are_completed()
 {}
 
 /// The word that a byte is in, or else the one that ends there.
-#[tactic(auto, unfolding(crate::specs::Meanings::slot_around, crate::specs::Slots::slot_of, crate::specs::Contexts::step, crate::specs::Contexts::next_move, crate::specs::Contexts::bounds_for, crate::specs::Classes::class_of, crate::specs::Values::substitutes, crate::specs::Values::is_split, rule_types::specs::Names::key_of))]
 pub fn words_are_found_around_a_place()
     ensures braces { slot_around Rules (codes "ENV{ID_BUS}==\"usb\"") 6 ≡ Some (word Property 4) }
     ensures end { slot_around Rules (codes "TAG += \"a\"") 3 ≡ Some (word Key 0) }

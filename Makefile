@@ -1,4 +1,4 @@
-# Builds, checks, installs and packs devdry.
+# Builds, checks, installs and packs devdry, and devdry-lsp, its language server for editors.
 #
 # Only a proved program is built, so the first `make` proves every crate that the program depends on, which takes more
 # than an hour on four processors. After a change, the changed crates are proved again, and those that depend on them.
@@ -20,6 +20,9 @@ CAPTUREDIR = $(BINDIR)/../share/devdry
 # program that exists.
 PROGRAM ?= build/devdry
 
+# The language server, likewise.
+EDITOR_PROGRAM ?= build/devdry-lsp
+
 # The toolchain: `rt` on PATH, or otherwise where it is installed.
 RT ?= $(shell command -v rt || echo /opt/rattle/bin/rt)
 
@@ -27,15 +30,19 @@ RT ?= $(shell command -v rt || echo /opt/rattle/bin/rt)
 # memory allows (a proof takes 1 to 3 GB).
 JOBS ?= $(shell awk -v most=$$(($$(nproc) + 2)) '/^MemAvailable/ { fit = int($$2 / 3000000); print fit < 1 ? 1 : fit < most ? fit : most }' /proc/meminfo)
 
-# The program's crate and those that it depends on, from crates.txt (a line `name: crate crate ..` for each, lowest
-# first), and their files.
-CRATES := $(shell tac crates.txt | awk -F '[: ]+' 'BEGIN { below["devdry"] } $$1 in below { print $$1; for (i = 2; i <= NF; i++) below[$$i] }')
-FILES := $(shell find $(wildcard $(foreach crate,$(CRATES),$(addprefix crates/$(crate)/,src specs proofs))) -type f)
+# A program's crate and those that it depends on, from crates.txt (a line `name: crate crate ..` for each, lowest first),
+# and the files of some crates.
+below = $(shell tac crates.txt | awk -F '[: ]+' 'BEGIN { below["$(1)"] } $$1 in below { print $$1; for (i = 2; i <= NF; i++) below[$$i] }')
+files = $(shell find $(wildcard $(foreach crate,$(1),$(addprefix crates/$(crate)/,src specs proofs))) -type f)
+CRATES := $(call below,devdry)
+FILES := $(call files,$(CRATES))
+EDITOR_CRATES = $(call below,devdry_lsp)
+EDITOR_FILES = $(call files,$(EDITOR_CRATES))
 
 # What a proof depends on apart from the crates' own files: the kit.
 KIT := $(wildcard $(dir $(realpath $(RT)))../KIT-ID)
 
-.PHONY: all check check-uses mutants install uninstall deb clean
+.PHONY: all editor check check-uses mutants install install-editor uninstall deb clean
 
 all: build/devdry
 
@@ -52,6 +59,20 @@ build/devdry: $(FILES) crates.txt $(KIT) | build
 	    echo 'make: the sources were not passed: if nothing is named above, memory ran out (that step takes up to 13 GB)'; exit 1; fi
 	@cd crates/devdry && $(RT) run -- --version || { cat $(CURDIR)/build/proofs.log; exit 1; }
 	@cp crates/devdry/out/devdry $@
+
+# The language server for editors: a program of its own, so that `make` does not wait for it. Its rule is only looked at
+# if it is asked for.
+editor: | build
+	@$(MAKE) --no-print-directory build/devdry-lsp
+
+ifneq ($(filter build/devdry-lsp,$(MAKECMDGOALS)),)
+build/devdry-lsp: $(EDITOR_FILES) crates.txt $(KIT) | build
+	@cd crates/devdry_lsp && $(RT) all test --jobs $(JOBS) > $(CURDIR)/build/editor-proofs.log 2>&1; \
+	    $(RT) run -- --version || { cat $(CURDIR)/build/editor-proofs.log; exit 1; }
+	@cp crates/devdry_lsp/out/devdry_lsp $@
+else
+build/devdry-lsp: editor
+endif
 
 build:
 	@mkdir -p $@
@@ -83,17 +104,21 @@ install: $(PROGRAM)
 	install -D -m 644 -t $(DESTDIR)$(ZSHDIR) completions/_*
 	install -D -m 644 -t $(DESTDIR)$(FISHDIR) completions/*.fish
 
-# Removes just what `install` puts there.
+# The language server alone; its page is among those that `install` puts there.
+install-editor: $(EDITOR_PROGRAM)
+	install -D -m 755 $(EDITOR_PROGRAM) $(DESTDIR)$(BINDIR)/devdry-lsp
+
+# Removes just what `install` and `install-editor` put there.
 uninstall:
-	rm -f $(addprefix $(DESTDIR)$(BINDIR)/,devdry devdry-capture) $(DESTDIR)$(CAPTUREDIR)/devdry-capture.awk
+	rm -f $(addprefix $(DESTDIR)$(BINDIR)/,devdry devdry-capture devdry-lsp) $(DESTDIR)$(CAPTUREDIR)/devdry-capture.awk
 	rm -f $(patsubst man/%,$(DESTDIR)$(MANDIR)/man1/%,$(wildcard man/*.1))
 	rm -f $(addprefix $(DESTDIR)$(BASHDIR)/,devdry devdry-capture)
 	rm -f $(patsubst completions/%,$(DESTDIR)$(ZSHDIR)/%,$(wildcard completions/_*))
 	rm -f $(patsubst completions/%,$(DESTDIR)$(FISHDIR)/%,$(wildcard completions/*.fish))
 
-# A Debian package, build/devdry_VERSION_ARCHITECTURE.deb.
-deb: $(PROGRAM) | build
-	packaging/deb.sh $(PROGRAM) build
+# A Debian package with both programs, build/devdry_VERSION_ARCHITECTURE.deb.
+deb: $(PROGRAM) $(EDITOR_PROGRAM) | build
+	packaging/deb.sh $(PROGRAM) build $(EDITOR_PROGRAM)
 
 clean:
 	rm -rf build crates/*/out

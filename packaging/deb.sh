@@ -1,13 +1,14 @@
 #!/usr/bin/env bash
 # Packs the program, its pages and its completions for Debian: DIR/devdry_VERSION_ARCHITECTURE.deb. The same files give
 # the same package, byte by byte. It needs dpkg-deb; with dpkg-shlibdeps (package dpkg-dev) it knows which libc.
-# usage: packaging/deb.sh PROGRAM DIR
+# usage: packaging/deb.sh PROGRAM DIR [EDITOR_PROGRAM]    with the language server, if one is named
 #   DEBFULLNAME, DEBEMAIL     who makes the package, as Debian's other tools take it
 #   SOURCE_DATE_EPOCH         the time of its files; by default that of the last commit, or of CHANGELOG.md
 set -euo pipefail
 top=$(cd "$(dirname "$0")/.." && pwd)
 program=$(realpath "$1")
 target=$(realpath "$2")
+editor=${3:+$(realpath "$3")}
 SOURCE_DATE_EPOCH=${SOURCE_DATE_EPOCH:-$(git -C "$top" log -1 --format=%ct 2> /dev/null || date -r "$top/CHANGELOG.md" +%s)}
 export SOURCE_DATE_EPOCH
 version=$("$program" --version | sed 's/^devdry //')
@@ -22,13 +23,18 @@ doc=$root/usr/share/doc/devdry
 mkdir -p "$root/DEBIAN"
 MAKEFLAGS="" make --silent -C "$top" install PROGRAM="$program" DESTDIR="$root" PREFIX=/usr MANDIR=/usr/share/man \
     ZSHDIR=/usr/share/zsh/vendor-completions
-strip --remove-section=.comment --remove-section=.note "$root/usr/bin/devdry"
+programs=("$root/usr/bin/devdry")
+if [ -n "$editor" ]; then
+    install -m 755 "$editor" "$root/usr/bin/devdry-lsp"
+    programs+=("$root/usr/bin/devdry-lsp")
+fi
+strip --remove-section=.comment --remove-section=.note "${programs[@]}"
 gzip -9n "$root"/usr/share/man/man1/*
 mkdir -p "$doc/docs/udev"
 gzip -9nc "$top/CHANGELOG.md" > "$doc/CHANGELOG.md.gz"
 # (below docs/, as README.md links to them; the pages for those who change devdry are left out)
 sed 's/(CHANGELOG\.md)/(CHANGELOG.md.gz)/' "$top/README.md" > "$doc/README.md"
-for page in behaviour writing-rules messages differences format measures proved DECISIONS; do cp "$top/docs/$page.md" "$doc/docs"; done
+for page in behaviour editors writing-rules messages differences format measures proved DECISIONS; do cp "$top/docs/$page.md" "$doc/docs"; done
 cp "$top"/docs/udev/*.md "$doc/docs/udev"
 cp -r --no-preserve=mode "$top/examples" "$doc"
 cat >> "$doc/README.md" << 'END'
@@ -61,7 +67,7 @@ END
 depends=libc6
 if command -v dpkg-shlibdeps > /dev/null; then
     printf 'Source: devdry\n\nPackage: devdry\nArchitecture: any\n' > "$work/debian/control"
-    depends=$(cd "$work" && dpkg-shlibdeps -O "$root/usr/bin/devdry" | sed -n 's/^shlibs:Depends=//p')
+    depends=$(cd "$work" && dpkg-shlibdeps -O "${programs[@]}" | sed -n 's/^shlibs:Depends=//p')
 fi
 
 (cd "$root" && find usr -type f -print0 | LC_ALL=C sort -z | xargs -0 md5sum) > "$root/DEBIAN/md5sums"

@@ -50,7 +50,7 @@ deb=$(echo "$work"/debs/*.deb)
 goes_well "both packages are equal" cmp "$deb" "$work/again/${deb##*/}"
 mapfile -t examples < <(cd "$top" && find examples -type f)
 docs=$(printf '/usr/share/doc/devdry/%s\n' README.md CHANGELOG.md.gz changelog.gz copyright \
-    docs/{behaviour,writing-rules,messages,differences,format,measures,proved,DECISIONS}.md docs/udev/{BUILTINS,EVENTS,LINKS,READING}.md \
+    docs/{behaviour,editors,writing-rules,messages,differences,format,measures,proved,DECISIONS}.md docs/udev/{BUILTINS,EVENTS,LINKS,READING}.md \
     "${examples[@]}")
 same "the files of the package" "$({ wanted /usr /usr/share/zsh/vendor-completions .gz; echo "$docs"; } | sorted)" \
     "$(dpkg-deb --fsys-tarfile "$deb" | tar -t | sed 's/^\.//' | grep -v '/$' | sorted)"

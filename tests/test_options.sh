@@ -30,7 +30,7 @@ same "devdry(1) has the options of --help" "$(helps)" "$(pages "$top/man/devdry.
 same "devdry(1) has the commands of --help" "$commands" \
     "$(sed -n '/^\.Sh COMMANDS/,/^\.Sh OPT/s/^\.It Cm //p' "$top/man/devdry.1" | sort)"
 same "there is a page for each command" "$verbs" \
-    "$(cd "$top/man" && printf '%s\n' devdry-*.1 | sed 's/^devdry-//; s/\.1$//' | grep -vx capture | sort)"
+    "$(cd "$top/man" && printf '%s\n' devdry-*.1 | sed 's/^devdry-//; s/\.1$//' | grep -vxE 'capture|lsp' | sort)"
 for verb in $verbs; do
     page=$top/man/devdry-$verb.1
     same "devdry-$verb(1) has the options of --help" "$(helps "$verb")" "$(pages "$page")"

@@ -1,0 +1,10 @@
+pub mod Queries
+pub mod Given
+pub mod Spots
+pub mod Hovers
+pub mod Offers
+pub mod Edits
+pub mod Labels
+pub mod Symbols
+pub mod Actions
+pub mod Answers

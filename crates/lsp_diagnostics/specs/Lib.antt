@@ -1,0 +1,5 @@
+pub mod Severities
+pub mod Diagnostics
+pub mod Documents
+pub mod Fixes
+pub mod Begun

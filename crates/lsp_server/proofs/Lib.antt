@@ -1,0 +1,5 @@
+mod Answering
+mod ContentValues
+mod Holding
+mod Others
+mod Reports

@@ -1,0 +1,30 @@
+use Rattle.std.proofs.Common.{ap}
+use Rattle.json.specs.Print.{print}
+use Rattle.lsp_server.specs.Documents.{not_held}
+use Rattle.lsp_server.proofs.Reports.{report_without_version}
+use Rattle.lsp_server.proofs.publishing.not_held.Goals as goal
+
+pub returns : goal.returns
+unfolding not_held
+returns c =
+    rw (
+      c.into_inner.ensures.items,
+      c.in_ok-end_object-2.ensures.room.0,
+      c.in_ok-end_object-2.ensures.ok,
+      c.in_ok-end_object.ensures.room.0,
+      c.in_ok-end_object.ensures.ok,
+      c.in_ok-write_about_whole.ensures.before,
+      c.in_ok-write_about_whole.ensures.tokens,
+      c.in_ok-key.ensures.room.0,
+      c.in_ok-key.ensures.ok,
+      c.in_ok-write_told.ensures.before,
+      c.in_ok-write_told.ensures.tokens,
+      c.in_ok-begin_object.ensures.room.0,
+      c.in_ok-begin_object.ensures.ok,
+      c.in_ok-begin_notification.ensures.before,
+      c.in_ok-begin_notification.ensures.tokens,
+      c.new-writer.ensures.before,
+      c.new-writer.ensures.tokens,
+      c.new.ensures.items,
+    )
+    (ap print (report_without_version _ _))

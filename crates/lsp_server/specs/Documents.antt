@@ -1,0 +1,70 @@
+-- What comes of documents that are opened, changed and closed.
+use Rattle.std.specs.Prelude.{ℕ, ◌++◌, if◌then◌else◌, List, [], ◌∷◌, Option, Some, None, codes}
+use Rattle.text_tables.specs.Pairs.{value_of, with_value, without_name}
+use Rattle.text_tables.specs.Texts.{Text}
+use Rattle.json.specs.Json.{Json}
+use Rattle.text_json.specs.Told.{told}
+use Rattle.text_json.specs.Values.{array_of, number_value, object_of}
+use Rattle.lsp_diagnostics.specs.Documents.{about_whole, document_diagnostics}
+use Rattle.lsp_messages.specs.Parameters.{OpenedValue}
+use Rattle.lsp_messages.specs.Responses.{notification_of}
+use Rattle.lsp_texts.specs.Changes.{all_changed}
+use Rattle.lsp_texts.specs.ChangeValues.{ChangeValue}
+use Rattle.lsp_texts.specs.Documents.{may_be_held, with_document}
+use Rattle.lsp_texts.specs.declared.documents.Document.{Document}
+use Rattle.lsp_server.specs.Servers.{Server, Step, is_silent}
+
+-- a member of an object: its key and its value
+abbrev pub Member : Type 0
+Member = Text × Json
+
+-- the member with a version, if there is one
+abbrev pub version_members : Option ℕ → List Member
+version_members None = []
+version_members (Some version) = (codes "version", number_value version) ∷ []
+
+-- the notification of what is reported for a document
+abbrev pub reported : (uri : Text) → Option ℕ → Json → Json
+reported uri version diagnostics =
+    notification_of (codes "textDocument/publishDiagnostics")
+    (object_of ((codes "uri", told uri) ∷ version_members version ++ (codes "diagnostics", diagnostics) ∷ []))
+
+-- what is reported for a document by the settings of the server
+unfoldable pub published : Server → (uri : Text) → Document → Json
+published server uri document = reported uri document.version (document_diagnostics server.encoding server.settings uri document.text)
+
+-- nothing is reported any more for a document that was closed
+unfoldable pub unpublished : (uri : Text) → Json
+unpublished uri = reported uri None (array_of [])
+
+-- what is reported for a document that is not held, since too much is open
+unfoldable pub not_held : (uri : Text) → Json
+not_held uri = reported uri None (about_whole (codes "not checked: 1,024 files or 64 MiB are open, so close some and open this one again"))
+
+-- a document comes in the place of that of its URI, or last
+abbrev pub taken : Server → (uri : Text) → Document → Step
+taken server uri document = record {
+  server = record server { documents = with_document server.documents uri document };
+  sent = Some (if may_be_held (with_value server.documents uri document) then published server uri document else not_held uri);
+}
+
+-- what comes of `textDocument/didOpen`
+abbrev pub opened : Server → Option OpenedValue → Step
+opened server None = is_silent server
+opened server (Some o) = taken server o.uri (record { version = o.version; text = o.text })
+
+-- what comes of changes to a document that is open, or not
+abbrev pub changed_by : Server → (uri : Text) → Option ℕ → List ChangeValue → Option Document → Step
+changed_by server uri version changes None = is_silent server
+changed_by server uri version changes (Some document) =
+    taken server uri (record { version = version; text = all_changed server.encoding document.text changes })
+
+-- what comes of `textDocument/didChange`, by its URI, its version and its changes
+abbrev pub changed : Server → Option Text → Option ℕ → Option (List ChangeValue) → Step
+changed server (Some uri) version (Some changes) = changed_by server uri version changes (value_of server.documents uri)
+changed server _ version _ = is_silent server
+
+-- what comes of `textDocument/didClose`
+abbrev pub closed : Server → Option Text → Step
+closed server None = is_silent server
+closed server (Some uri) = record { server = record server { documents = without_name server.documents uri }; sent = Some (unpublished uri) }

@@ -1,0 +1,9 @@
+pub mod Servers
+pub mod Capabilities
+pub mod Errors
+pub mod Beginning
+pub mod Documents
+pub mod Contents
+pub mod Given
+pub mod Replies
+pub mod Laws

@@ -1,20 +1,31 @@
 //! What is true of the server. Each law is the contract of a function that does nothing.
-ghost use Rattle.std.specs.Prelude.{◌≡◌, List, None, Option, Some, codes, false, true};
+ghost use Rattle.std.specs.Prelude.{◌≡◌, List, None, Ok, Option, Some, codes, false, true};
 ghost use Rattle.std.specs.Str.{bytes_eq};
-ghost use Rattle.text_tables.specs.Pairs.{value_of};
+ghost use Rattle.text_tables.specs.Pairs.{value_of, with_value, without_name};
 ghost use Rattle.text_tables.specs.Texts.{Text, is_among, same_text};
 ghost use Rattle.json.specs.Json.{Json};
+ghost use Rattle.lsp_answers.specs.Answers.{answer};
+ghost use Rattle.lsp_answers.specs.Queries.{QueryValue, query_of};
 ghost use Rattle.lsp_frames.specs.declared.frames.Item.{Item};
 ghost use Rattle.lsp_frames.specs.declared.frames.Item.TheVariants.{Content, NoFrame, TooLong};
+ghost use Rattle.lsp_messages.specs.Changes.{changes_of};
 ghost use Rattle.lsp_messages.specs.Messages.{notification, request};
+ghost use Rattle.lsp_messages.specs.Options.{options_of};
 ghost use Rattle.lsp_messages.specs.Parameters.{OpenedValue, opened_of, uri_of};
+ghost use Rattle.lsp_messages.specs.Responses.{response_of};
 ghost use Rattle.lsp_messages.specs.declared.errors.ErrorCode.TheVariants.{InvalidRequest, ParseError, ServerNotInitialized};
+ghost use Rattle.lsp_server.specs.Beginning.{encoding_of, settings_asked};
+ghost use Rattle.lsp_server.specs.Capabilities.{initialized};
 ghost use Rattle.lsp_server.specs.Contents.{step, step_of, value_of_content};
+ghost use Rattle.lsp_server.specs.Documents.{published, unpublished};
 ghost use Rattle.lsp_server.specs.Errors.{error_for};
-ghost use Rattle.lsp_server.specs.Laws.{IsAnswerTo, after_all, document_methods};
+ghost use Rattle.lsp_server.specs.Laws.{IsAnswerTo, after_all, as_changed, as_document, document_methods};
 ghost use Rattle.lsp_server.specs.Servers.{Server, first, sends};
 ghost use Rattle.lsp_server.specs.declared.server.Phase.TheVariants.{Down, Fresh, Running};
+ghost use Rattle.lsp_settings.specs.Settings.{Settings};
+ghost use Rattle.lsp_texts.specs.ChangeValues.{ChangeValue};
 ghost use Rattle.lsp_texts.specs.Documents.{may_be_held};
+ghost use Rattle.lsp_texts.specs.declared.documents.Document.{Document};
 
 /// Each request is answered with its id, and changes no document.
 pub fn requests_are_answered()
@@ -63,4 +74,43 @@ pub fn other_documents_stay()
 /// Whatever frames come, what is open stays within the limits: 1,024 documents, and 64 MiB in all.
 pub fn what_is_open_is_bounded()
     ensures { (items : List Item) → may_be_held (after_all first items).documents ≡ true }
+{}
+
+/// A document that is opened or changed while the server is running is held and reported, unless it is too much; after
+/// `didClose` it is not open any more, and nothing is reported for it.
+pub fn what_is_opened_is_held_until_it_is_closed()
+    ensures opened { (server : Server) (params : Json) (opened : OpenedValue) → server.phase ≡ Running → opened_of params ≡ Some opened
+        → may_be_held (with_value server.documents opened.uri (as_document opened)) ≡ true
+        → step_of server (notification (codes "textDocument/didOpen") (Some params))
+        ≡ record {
+          server = record server { documents = with_value server.documents opened.uri (as_document opened) };
+          sent = Some (published server opened.uri (as_document opened));
+        } }
+    ensures changed { (server : Server) (params : Json) (uri : Text) (changes : List ChangeValue) (document : Document) → server.phase ≡ Running
+        → uri_of params ≡ Some uri → changes_of params ≡ Some changes → value_of server.documents uri ≡ Some document
+        → may_be_held (with_value server.documents uri (as_changed server params changes document)) ≡ true
+        → step_of server (notification (codes "textDocument/didChange") (Some params))
+        ≡ record {
+          server = record server { documents = with_value server.documents uri (as_changed server params changes document) };
+          sent = Some (published server uri (as_changed server params changes document));
+        } }
+    ensures closed { (server : Server) (params : Json) (uri : Text) → server.phase ≡ Running → uri_of params ≡ Some uri
+        → step_of server (notification (codes "textDocument/didClose") (Some params))
+        ≡ record { server = record server { documents = without_name server.documents uri }; sent = Some (unpublished uri) } }
+{}
+
+/// `initialize` with settings that there are begins: the server says what it can do, and reports by these settings from then
+/// on. While it is running, a request that is a query is answered by what the query asks for.
+pub fn what_is_asked_is_answered()
+    ensures begins { (server : Server) (id params : Json) (settings : Settings) → server.phase ≡ Fresh
+        → settings_asked (options_of params) ≡ Ok settings
+        → step_of server (request id (codes "initialize") (Some params))
+        ≡ record {
+          server = record server { phase = Running; encoding = encoding_of params; settings = settings };
+          sent = Some (response_of id (initialized (encoding_of params)));
+        } }
+    ensures answers { (server : Server) (id : Json) (method : Text) (params : Option Json) (query : QueryValue) → server.phase ≡ Running
+        → bytes_eq method (codes "initialize") ≡ false → bytes_eq method (codes "shutdown") ≡ false
+        → query_of server.documents method params ≡ Ok query
+        → step_of server (request id method params) ≡ sends server (response_of id (answer server.encoding server.settings query)) }
 {}

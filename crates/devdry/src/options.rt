@@ -10,7 +10,7 @@ ghost use Rattle.devdry.specs.Runs.{Runs, RunsAlone, RunsWithFile};
 use crate::reporting::{report_options_fault, report_read_fault};
 use crate::running::run_alone;
 use crate::terminals::Terminals;
-use devdry_files::{Disk, DiskFault, ReadFault};
+use devdry_files::{Disk, ReadFault, fault_at};
 use devdry_options::read_options;
 use devdry_words::{options_in, with_options};
 use engine_ends::{Sink, Source, report_out_of_memory};
@@ -62,16 +62,6 @@ fn run_named<D: Disk, I: Source, W: Sink, E: Sink>(
     match named {
         None => run_alone(alloc, disk, words, terminals, input, output, error),
         Some(path) => run_with_file(alloc, disk, path, words, terminals, input, output, error),
-    }
-}
-
-/// The fault of a disk at a path. It takes over the path, so that reporting it needs no memory.
-fn fault_at(path: String, fault: DiskFault) -> ReadFault
-    ensures { result ≡ fault_of path fault }
-{
-    match fault {
-        DiskFault::Absent | DiskFault::Unreadable | DiskFault::NotUtf8 => ReadFault::Path(path),
-        DiskFault::OutOfMemory => ReadFault::Memory,
     }
 }
 

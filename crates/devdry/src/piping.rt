@@ -1,7 +1,5 @@
 //! Runs that name the standard input as a file.
-ghost use Rattle.std.specs.List.{list_any};
-ghost use Rattle.std.specs.Prelude.{◌≡◌, MatchOption, map, option_map};
-ghost use Rattle.text_tables.specs.Texts.{is_among, same_text};
+ghost use Rattle.std.specs.Prelude.{◌≡◌, MatchOption, option_map};
 ghost use Rattle.devdry.specs.Piping.{ReportsInputFault, input_named, input_of, names_input};
 ghost use Rattle.devdry.specs.Runs.{RunsPiped, RunsWithInput};
 
@@ -10,28 +8,15 @@ use devdry_files::Disk;
 use devdry_input::{InputDisk, InputFault, read_whole};
 use engine_ends::{Line, Request, Sink, Source, report_failure, report_out_of_memory};
 use std::alloc::Global;
+use text_tables::is_name_among;
 
 const READ_FAILED: &[u8] = b"devdry: read failed\n";
-
-/// Whether one of these files has a name, as it stands among them.
-fn is_named(files: &[&str], name: &str) -> bool
-    ensures { result ≡ list_any (λ f. same_text name.now f.now) files.now }
-{
-    files.iter().any(|file| name.as_bytes() == file.as_bytes())
-}
-
-/// Whether one of these files has a name.
-fn is_among(files: &[&str], name: &str) -> bool
-    ensures { result ≡ is_among (map (λ f. f.now) files.now) name.now }
-{
-    is_named(files, name)
-}
 
 /// Whether a line names the standard input as a file.
 fn names_input(line: &Line<'_>) -> bool
     ensures { result ≡ names_input line.now }
 {
-    is_among(&line.files, line.input_name)
+    is_name_among(&line.files, line.input_name)
 }
 
 /// The name of the standard input as a file, if a line names it as one.

@@ -7,7 +7,6 @@ ghost use Rattle.devdry_options.specs.Files.{bad_line, words_of};
 ghost use Rattle.devdry_options.specs.Words.{is_option, is_word};
 
 /// A flag has no value, and any other option has one, which may be empty.
-#[tactic(auto, unfolding(crate::specs::Names::flag_names, crate::specs::Names::valued_names, crate::specs::Names::repeated_names, text_bytes::specs::Texts::split_once))]
 pub fn options_have_their_values()
     ensures flag { is_option (codes "--lint") ≡ true }
     ensures flag_with_value { is_option (codes "--lint=yes") ≡ false }
@@ -22,7 +21,6 @@ pub fn options_have_their_values()
 {}
 
 /// The words of a file: blanks around them, empty lines and comments are left out, and a control character makes a line bad.
-#[tactic(auto, unfolding(crate::specs::Files::words_of, crate::specs::Words::is_word, crate::specs::Names::flag_names, crate::specs::Names::valued_names, crate::specs::Names::repeated_names, text_bytes::specs::Texts::split_once))]
 pub fn lines_are_words()
     ensures words { is_utf8 (codes "--lint") ≡ true → is_utf8 (codes "--ignore=S2") ≡ true
         → words_of (codes "# ours\n --lint\t\r\n\n--ignore=S2") ≡ codes "--lint" ∷ codes "--ignore=S2" ∷ [] }
@@ -30,7 +28,6 @@ pub fn lines_are_words()
 {}
 
 /// The first bad line of a file is the one that counts.
-#[tactic(auto, unfolding(crate::specs::Files::bad_line, crate::specs::Words::is_word, crate::specs::Names::flag_names, crate::specs::Names::valued_names, crate::specs::Names::repeated_names, text_bytes::specs::Texts::split_once))]
 pub fn lines_that_are_bad()
     ensures one { is_utf8 (codes "--lint") ≡ true → bad_line (codes "--lint\n lint\n-s\n") ≡ Some (record { number = 2; text = codes " lint" }) }
     ensures none { is_utf8 (codes "--lint") ≡ true → bad_line (codes "#-s\n\n--lint\n") ≡ None }

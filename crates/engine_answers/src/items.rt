@@ -1,6 +1,5 @@
 //! The lines about items, each after what is in front of it.
 ghost use Rattle.std.specs.Prelude.{◌≡◌, ◌++◌, ◌∷◌, [], IfOk, OnOk};
-ghost use Rattle.eval_effects.specs.Items.{watch_word};
 ghost use Rattle.engine_answers.specs.Answers.{lines_after};
 ghost use Rattle.engine_answers.specs.Inner.{lines_as_is, shown_count};
 ghost use Rattle.engine_answers.specs.Items.{env_lines, given_lines, item_lines, label_lines, member_lines, node_lines};
@@ -9,6 +8,7 @@ ghost use Rattle.engine_answers.specs.Items.{persist_lines, priority_lines, valu
 use crate::front::Front;
 use crate::lines::{is_hidden, push_as_is, push_bare, push_line, push_pair, push_text};
 use engine_ends::escaped_count;
+use eval_effects::watch_word;
 use eval_rules::Outcome;
 use eval_state::Label;
 use itoa::Buffer;
@@ -90,13 +90,6 @@ fn push_priority<F: Front>(
     let number = buffer.format(priority).as_bytes();
     front.push_word(alloc, lines, b"priority", number)?;
     push_line(lines, b"priority", number)
-}
-
-/// The word for watching or not, by which the item is named.
-pub fn watch_word(watched: bool) -> &'static [u8]
-    ensures { result.now ≡ watch_word watched }
-{
-    if watched { b"watch" } else { b"nowatch" }
 }
 
 /// Adds the line for watching or not, if it was assigned.

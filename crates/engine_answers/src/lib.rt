@@ -12,6 +12,5 @@ mod lines;
 mod tables;
 
 pub use answers::{answer, answer_lines, sourced_lines};
-pub use items::watch_word;
 pub use lines::is_hidden;
 pub use tables::Tables;

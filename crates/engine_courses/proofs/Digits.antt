@@ -1,15 +1,9 @@
 -- The number of a line, by what is read of decimal digits.
-use Rattle.std.proofs.Common.{◌≡◌, ℕ, ◌-◌, ◌^◌, Bool, true, false, ◌&&◌, cond, eqb, min, nat_lt, [], ◌∷◌, length, Some, None, refl, ap, sym, arith}
-use Rattle.std.specs.List.{list_all}
+use Rattle.std.proofs.Common.{◌≡◌, ℕ, ◌-◌, ◌^◌, Bool, true, false, ◌&&◌, cond, min, nat_lt, Some, None, refl, ap, sym, arith}
 use Rattle.std.proofs.lemmas.Bool.Decides.{nat_tests}
-use Rattle.text_bytes.specs.Numbers.{decimal, decimal_below, is_decimal, is_digit}
+use Rattle.text_bytes.specs.Numbers.{decimal, decimal_below, is_decimal}
 use Rattle.text_tables.specs.Texts.{Text}
 use Rattle.engine_courses.specs.Nearest.{line_number}
-
--- a text that is not empty is a number exactly if all of it is digits
-pub decimal_filled : (text : Text) (digits : Bool) → eqb (length text) 0 ≡ false → digits ≡ list_all is_digit text → digits ≡ is_decimal text
-decimal_filled [] digits filled all = let no : true ≡ false = filled in cc
-decimal_filled (b ∷ text) digits filled all = all
 
 below_is : (n m : ℕ) (t : Bool) → nat_lt m (2 ^ 32) ≡ t → Some n ≡ cond t (Some m) None → Some n ≡ Some (min m (2 ^ 32 - 1))
 below_is n m true e h = let same : n ≡ m = cc in ap Some (grind (arith, nat_tests))

@@ -3,7 +3,7 @@ use Rattle.std.specs.Prelude.{Bool, not, ◌-◌, ◌==◌, ◌&&◌, ◌||◌, 
 use Rattle.std.specs.List.{suffix_len}
 use Rattle.text_bytes.specs.Names.{colon, slash}
 use Rattle.text_bytes.specs.Numbers.{is_digit}
-use Rattle.text_bytes.specs.Texts.{ends_in}
+use Rattle.text_bytes.specs.Texts.{ends_in, without_last}
 use Rattle.text_links.specs.Kernels.{last_component}
 use Rattle.text_tables.specs.Texts.{Text}
 
@@ -24,10 +24,6 @@ alike text file =
 -- a text without the digits at its end
 abbrev pub before_digits : Text → Text
 before_digits text = take (length text - suffix_len is_digit text) text
-
--- a text without its last byte
-abbrev pub without_last : Text → Text
-without_last text = take (length text - 1) text
 
 -- the file that a text names: what comes before `:` and digits at its end, if it ends so, or else all of it
 abbrev pub file_in : Text → Text

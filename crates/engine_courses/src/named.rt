@@ -1,11 +1,9 @@
 //! What a text of `--why` and the name of a file are compared as.
-ghost use Rattle.std.specs.Prelude.{◌≡◌, ◌≤◌, length};
-ghost use Rattle.std.specs.List.{suffix_len};
-ghost use Rattle.text_bytes.specs.Numbers.{is_digit};
-ghost use Rattle.engine_courses.specs.Named.{alike, before_digits, file_in, has_folder, is_beside_name, without_last};
+ghost use Rattle.std.specs.Prelude.{◌≡◌};
+ghost use Rattle.engine_courses.specs.Named.{alike, before_digits, file_in, has_folder, is_beside_name};
 
-use text_bytes::{ends_in, find, is_digit};
-use text_links::last_component;
+use text_bytes::{ends_in, find, without_last};
+use text_links::{last_component, trailing_digits};
 
 /// A text and the name of a file, as they are compared.
 #[derive(Clone, Copy)]
@@ -45,29 +43,11 @@ pub(crate) fn alike<'a, 'b>(text: &'a [u8], file: &'b [u8]) -> Names<'a, 'b>
     }
 }
 
-/// How many digits a text ends in.
-fn trailing_digits(text: &[u8]) -> usize
-    ensures value { result ≡ suffix_len is_digit text.now }
-    ensures within { result ≤ length text.now }
-{
-    text.iter()
-        .rev()
-        .take_while(|byte| is_digit(**byte))
-        .count()
-}
-
 /// A text without the digits at its end.
 fn before_digits(text: &[u8]) -> &[u8]
     ensures { result.now ≡ before_digits text.now }
 {
     text.split_at(text.len() - trailing_digits(text)).0
-}
-
-/// A text without its last byte.
-fn without_last(text: &[u8]) -> &[u8]
-    ensures { result.now ≡ without_last text.now }
-{
-    text.split_at(text.len().saturating_sub(1)).0
 }
 
 /// The file that a text names: what comes before `:` and digits at its end, if it ends so, or else all of it.

@@ -1,13 +1,12 @@
 //! The place that is nearest to the line that a text asks for.
 ghost use Rattle.std.specs.Prelude.{◌≡◌, Some, option_map};
-ghost use Rattle.text_bytes.specs.Numbers.{is_decimal};
 ghost use Rattle.engine_courses.specs.Inner.{nearer};
 ghost use Rattle.engine_courses.specs.Nearest.{candidate_of, is_nearer, least, line_in, line_number, nearest};
 
 use crate::named::alike;
 use crate::places::Place;
 use std::marker::Model;
-use text_bytes::{decimal_below, following, is_digit};
+use text_bytes::{decimal_below, following, is_decimal};
 
 /// A place, and how far it is from the line that a text asks for.
 #[derive(Drop)]
@@ -31,13 +30,6 @@ impl<'a> Candidate<'a> {
     {
         self.place
     }
-}
-
-/// Whether a text is decimal digits, at least one.
-fn is_decimal(text: &[u8]) -> bool
-    ensures { result ≡ is_decimal text.now }
-{
-    !text.is_empty() && text.iter().all(|byte| is_digit(*byte))
 }
 
 /// The number of a line that decimal digits write.

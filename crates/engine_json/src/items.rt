@@ -6,7 +6,8 @@ ghost use Rattle.engine_json.specs.Members.{env_members, given_members, item_mem
 ghost use Rattle.engine_json.specs.Members.{persist_members, priority_members, text_values, value_members, watch_members};
 
 use crate::shape::Shape;
-use engine_answers::{is_hidden, watch_word};
+use engine_answers::is_hidden;
+use eval_effects::watch_word;
 use eval_rules::Outcome;
 use eval_state::Label;
 use json::Writer;

@@ -1,6 +1,5 @@
 //! The lines on rules that no event met.
 ghost use Rattle.std.specs.Prelude.{◌≡◌, ◌∷◌, ◌++◌, [], IfOk, OnOk, codes, decimal, map, slice_index_or};
-ghost use Rattle.text_tables.specs.Texts.{is_among};
 ghost use Rattle.eval_courses.specs.Fates.{keys_of};
 ghost use Rattle.engine_unused.specs.Inner.{line_at};
 ghost use Rattle.engine_unused.specs.Unused.{first_place, greatest, holds_rules, is_reported, line_on, lines_by, most_failed};
@@ -14,6 +13,7 @@ use rule_types::Rule;
 use std::alloc::{AllocError, Global};
 use text_bytes::{Bytes, FileKind};
 use text_links::last_component;
+use text_tables::is_among;
 
 /// The greatest of counts.
 #[tactic(auto, unfolding(crate::specs::Unused::greatest))]
@@ -152,18 +152,6 @@ pub(crate) fn rules_named<'a>(alloc: Global, paths: &[&'a str]) -> Result<Vec<&'
         push_name(&mut names, path)?;
     }
     Ok(names)
-}
-
-/// Whether a name is one of these.
-fn is_among(names: &[&[u8]], name: &[u8]) -> bool
-    ensures { result ≡ is_among (map (λ known. known.now) names.now) name.now }
-{
-    for known in names {
-        if name == *known {
-            return true;
-        }
-    }
-    false
 }
 
 /// Whether a rule is reported on: it is of one of the files that are named, or none is.

@@ -5,11 +5,11 @@ ghost use Rattle.text_tables.specs.Pairs.{value_of};
 ghost use Rattle.eval_courses.specs.Acts.{answer_report, spaced};
 
 use device_core::ProgramAnswer;
-use eval_effects::push_shown;
+use eval_effects::{push_escaped, push_shown};
 use eval_state::State;
 use itoa::Buffer;
 use std::alloc::{AllocError, Global};
-use text_bytes::{Bytes, escape};
+use text_bytes::Bytes;
 
 /// Puts what a program wrote after a text.
 fn push_spaced(alloc: Global, text: &mut Vec<u8>, written: &[u8]) -> Result<(), AllocError>
@@ -20,13 +20,6 @@ fn push_spaced(alloc: Global, text: &mut Vec<u8>, written: &[u8]) -> Result<(), 
     }
     text.push(b' ')?;
     push_shown(alloc, text, written)
-}
-
-/// Puts an escaped text after another.
-fn push_escaped(alloc: Global, text: &mut Vec<u8>, about: &[u8]) -> Result<(), AllocError>
-    ensures { OnOk result (text.new.items ≡ text.old.items ++ escape_text about.now) }
-{
-    text.extend_from_slice(&escape(alloc, about)?)
 }
 
 /// Puts a command and the answer to it after a text.

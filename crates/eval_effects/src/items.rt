@@ -244,8 +244,8 @@ fn push_priority(
     )
 }
 
-/// The word for watching or not.
-fn watch_word(watched: bool) -> &'static [u8]
+/// The word for watching or not, by which the item is named.
+pub fn watch_word(watched: bool) -> &'static [u8]
     ensures { result.now ≡ watch_word watched }
 {
     if watched { b"watch" } else { b"nowatch" }

@@ -17,8 +17,8 @@ mod since;
 mod snapshot;
 
 pub use effects::end_and_report;
-pub use items::{Item, item_name, items_of, label_item};
+pub use items::{Item, item_name, items_of, label_item, watch_word};
 pub use laws::{final_since_the_first_rule, notes_say_what_is_left_out, shown_texts_are_read_back};
 pub use named::{push_key, push_rule};
-pub use shown::{push_joined, push_shortened, push_shown};
+pub use shown::{push_escaped, push_joined, push_shortened, push_shown};
 pub use since::Since;

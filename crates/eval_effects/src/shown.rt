@@ -29,7 +29,7 @@ fn push_size(text: &mut Vec<u8>, about: &[u8]) -> Result<(), AllocError>
 }
 
 /// Appends an escaped text.
-fn push_escaped(alloc: Global, text: &mut Vec<u8>, about: &[u8]) -> Result<(), AllocError>
+pub fn push_escaped(alloc: Global, text: &mut Vec<u8>, about: &[u8]) -> Result<(), AllocError>
     ensures { OnOk result (text.new.items ≡ text.old.items ++ escape_text about.now) }
 {
     text.extend_from_slice(&escape(alloc, about)?)

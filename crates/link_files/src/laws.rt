@@ -47,7 +47,6 @@ pub fn values_are_split()
 
 /// Of a file in two folders the first counts, with its drop-ins of all folders, none of them hidden; if it is empty, none
 /// counts. The kinds of the files are not looked at.
-#[tactic(auto, unfolding(crate::specs::Files::link_files, crate::specs::Files::link_file, crate::specs::Files::is_drop_in, crate::specs::Files::listed_path, crate::specs::Settings::with_file, crate::specs::Settings::with_line, crate::specs::Settings::section_of, crate::specs::Lines::joined_from, crate::specs::Lines::is_comment, crate::specs::Lines::stripped, text_bytes::specs::Texts::split_once))]
 pub fn files_are_put_together()
     ensures first { (kind : FileKind) → link_files (at kind 3 (codes "a.link") (codes "#") ∷ at kind 1 (codes "a.link") (codes "#") ∷ [])
         (at kind 2 (codes "a.link.d/b.conf") [] ∷ [])
@@ -65,7 +64,6 @@ pub fn files_are_put_together()
 
 /// What a line of UTF-8 adds: blanks around the key and the value are no part of them; a section is between brackets, and
 /// a line without `=` adds nothing.
-#[tactic(auto, unfolding(crate::specs::Settings::with_line, crate::specs::Settings::section_of, crate::specs::Lines::stripped, text_bytes::specs::Texts::split_once))]
 pub fn lines_set_keys()
     ensures setting { (r : ReadingValue) → is_utf8 (codes "Name = e=f") ≡ true
         → with_line r (codes " Name = e=f\t") ≡ with_setting r (codes "Name") (codes "e=f") }

@@ -1,5 +1,5 @@
 -- The values that keys take, as far as they are looked at.
-use Rattle.std.specs.Prelude.{Bool, true, not, ◌&&◌, ◌||◌, List, map}
+use Rattle.std.specs.Prelude.{Bool, true, ◌&&◌, ◌||◌, List, map}
 use Rattle.std.specs.List.{list_all}
 use Rattle.text_bytes.specs.Texts.{is_empty}
 use Rattle.text_tables.specs.Texts.{Text, is_among}

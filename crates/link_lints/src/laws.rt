@@ -22,7 +22,6 @@ pub fn faultless_files_are_used()
 {}
 
 /// What is reported for lines, and where: a section, a key, a value and a line as a whole.
-#[tactic(auto, unfolding(crate::specs::Faults::line_faults, crate::specs::Keys::form_of, link_files::specs::Booleans::is_yes, link_files::specs::Booleans::is_no, link_files::specs::Settings::section_of, link_files::specs::Lines::stripped, text_bytes::specs::Texts::split_once))]
 pub fn faults_have_their_places()
     ensures section { is_utf8 (codes "[Matsch]") ≡ true
         → line_faults section.Link (line 3 (codes " [Matsch]")) ≡ of_fault 3 3 9 UnknownSection (codes "Matsch") }
@@ -39,7 +38,6 @@ pub fn faults_have_their_places()
 {}
 
 /// Values that keys take, and some that they don't.
-#[tactic(auto, unfolding(link_files::specs::Booleans::is_yes, link_files::specs::Booleans::is_no, link_files::specs::Lists::is_list, link_files::specs::Names::is_interface_name, link_files::specs::Words::words_of, link_files::specs::Words::split, link_files::specs::Words::is_whole, link_files::specs::Words::split_byte))]
 pub fn keys_take_their_values()
     ensures yes { takes Boolean (codes "Yes") ≡ true }
     ensures number { takes Boolean (codes "2") ≡ false }
@@ -51,7 +49,6 @@ pub fn keys_take_their_values()
 {}
 
 /// A file is for no interface if nothing is given in its `[Match]` or in that of a drop-in; a file without bytes masks others.
-#[tactic(auto, unfolding(crate::specs::Matching::link_faults, crate::specs::Matching::asks_name, crate::specs::Matching::asks_address, crate::specs::Matching::asks_system, crate::specs::Matching::asks_machine, crate::specs::Faults::file_faults, crate::specs::Joined::joined_lines, crate::specs::Joined::joined_after, link_files::specs::Files::is_drop_in, link_files::specs::Settings::with_file, link_files::specs::Settings::with_line, link_files::specs::Lines::joined_from, link_files::specs::Lines::is_comment, link_files::specs::Lines::stripped, link_files::specs::Lists::list_of, link_files::specs::Lists::last_of))]
 pub fn files_ask_for_an_interface()
     ensures none { (kind : FileKind) → link_faults [] (at kind 0 (codes "a.link") (codes "#")) ≡ no_interface ∷ [] }
     ensures drop_in { (kind : FileKind) → link_faults [] (at kind 0 (codes "a.link.d/b.conf") (codes "#")) ≡ [] }

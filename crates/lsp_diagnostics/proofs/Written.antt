@@ -1,23 +1,14 @@
 -- The tokens of diagnostics, one part after another.
-use Rattle.std.proofs.Common.{◌≡◌, ℕ, List, [], ◌∷◌, ◌++◌, Option, Some, None, ap, ◌∙◌, append_assoc, decimal}
+use Rattle.std.proofs.Common.{◌≡◌, ℕ, List, [], ◌∷◌, ◌++◌, Option, Some, None, append_assoc, decimal}
 use Rattle.std.specs.Prelude.{codes}
 use Rattle.json.specs.Json.{Json, string}
 use Rattle.json.specs.Token as token
 use Rattle.json.specs.Token.{Token}
 use Rattle.json.specs.Tree.{json_tokens}
-use Rattle.text_json.proofs.Listed.{array_listed}
-use Rattle.text_json.specs.Listed.{member_tokens, value_tokens}
+use Rattle.text_json.specs.Listed.{member_tokens}
 use Rattle.text_json.specs.Told.{told, told_text}
-use Rattle.text_json.specs.Values.{array_of, number_value, object_of}
+use Rattle.text_json.specs.Values.{number_value, object_of}
 use Rattle.lsp_diagnostics.specs.Diagnostics.{tag_members}
-
--- an array, as it is written after other tokens
-pub array_written : (old : List Token) (js : List Json)
-    → ((old ++ token.begin_array ∷ []) ++ value_tokens js) ++ token.end_array ∷ [] ≡ old ++ json_tokens (array_of js)
-array_written old js =
-    let parts : ((old ++ token.begin_array ∷ []) ++ value_tokens js) ++ token.end_array ∷ []
-    ≡ old ++ token.begin_array ∷ (value_tokens js ++ token.end_array ∷ []) = simp append_assoc in
-    parts ∙ ap (λ (ts : List Token). old ++ ts) (array_listed js)
 
 -- a diagnostic, as it is written after other tokens, with a tag or without one
 pub diagnostic_written : (old : List Token) (range : Json) (severity : ℕ) (code said : List ℕ) (tag : Option ℕ)

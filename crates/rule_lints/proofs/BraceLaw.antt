@@ -17,10 +17,10 @@ step : (byte b : ℕ) (text : List ℕ) → following byte (b ∷ text) ≡ cond
 step byte b text = passed (b == byte) (position_or_len (λ x. x == byte) text) b text
 
 -- a text in two parts with a byte between them
-record Parted (byte : ℕ) (text : List ℕ) : Type 0 where
-  before : List ℕ
-  after : List ℕ
-  whole : text ≡ before ++ byte ∷ after
+pub record Parted (byte : ℕ) (text : List ℕ) : Type 0 where
+  pub before : List ℕ
+  pub after : List ℕ
+  pub whole : text ≡ before ++ byte ∷ after
 
 -- if something follows the first such byte, the byte is in the text, and the rest is after it
 record Opened (byte : ℕ) (text : List ℕ) : Type 0 where
@@ -44,7 +44,7 @@ opened byte other (b ∷ text) h = by (b == byte) refl (λ g. opened byte other 
           whole = ap (λ (t : List ℕ). b ∷ t) rest.whole ∙ ap (λ (t : List ℕ). b ∷ (rest.before ++ byte ∷ t)) (sym same);
         }
 
-parted : (byte : ℕ) (text : List ℕ) → has_byte byte text ≡ true → Parted byte text
+pub parted : (byte : ℕ) (text : List ℕ) → has_byte byte text ≡ true → Parted byte text
 parted byte [] h = absurd (false≢true h)
 parted byte (b ∷ text) h = by (or_cases (b == byte) (has_byte byte text) h) (λ g. parted byte text g)
   where

@@ -1,6 +1,6 @@
 -- What follows the last such byte of a text.
 use Rattle.std.proofs.Common.{◌≡◌, ℕ, ◌+◌, ◌-◌, ◌==◌, suc, Bool, true, false, cond, not, ◌||◌, List, [], ◌∷◌, ◌++◌, length, drop, reverse, refl, ap, sym, ◌∙◌, ◌↔◌, arith, append_assoc, length-append, inl, inr, ◌⊎◌}
-use Rattle.std.proofs.lemmas.Bool.{or_cases, or_left, or_right, eqb-true, eq-eqb, false≢true}
+use Rattle.std.proofs.lemmas.Bool.{or_left, or_right, eqb-true, eq-eqb, false≢true}
 use Rattle.std.proofs.lemmas.List.{reverse-append, length-reverse}
 use Rattle.std.proofs.lemmas.List.Folds.{list_any-append}
 use Rattle.std.proofs.lemmas.List.Sorted.{IsPermutation-reverse, list_any-IsPermutation}
@@ -8,6 +8,7 @@ use Rattle.std.specs.List.{prefix_len, suffix_len}
 use Rattle.rule_lints.specs.Laws.{HasOpenParenthesis}
 use Rattle.rule_lints.specs.Patterns.{close_parenthesis, has_open_parenthesis, open_parenthesis}
 use Rattle.rule_lints.specs.Texts.{has_byte, rest_after_last}
+use Rattle.rule_lints.proofs.BraceLaw.{Parted, parted}
 
 -- whether a byte is another
 abbrev is_other : ℕ → ℕ → Bool
@@ -81,22 +82,6 @@ cut byte (b ∷ text) = by (b == byte) refl (cut byte text)
     by c e (inr more) = inr (record { before = b ∷ more.before; rest = more.rest; none = more.none; whole = ap (λ (t : List ℕ). b ∷ t) more.whole })
     by true e (inl none) = inr (record { before = []; rest = text; none = none; whole = ap (λ (x : ℕ). x ∷ text) (eqb-true b byte e) })
     by false e (inl none) = inl (ap (λ (c : Bool). c || has_byte byte text) e ∙ none)
-
--- a text that has a byte, in two
-record Parted (byte : ℕ) (text : List ℕ) : Type 0 where
-  before : List ℕ
-  after : List ℕ
-  whole : text ≡ before ++ byte ∷ after
-
-parted : (byte : ℕ) (text : List ℕ) → has_byte byte text ≡ true → Parted byte text
-parted byte [] h = absurd (false≢true h)
-parted byte (b ∷ text) h = by (or_cases (b == byte) (has_byte byte text) h) (λ g. parted byte text g)
-  where
-    by : ((b == byte) ≡ true) ⊎ (has_byte byte text ≡ true) → (has_byte byte text ≡ true → Parted byte text) → Parted byte (b ∷ text)
-    by (inl e) more = record { before = []; after = text; whole = ap (λ (x : ℕ). x ∷ text) (eqb-true b byte e) }
-    by (inr e) more =
-        let rest = more e in
-        record { before = b ∷ rest.before; after = rest.after; whole = ap (λ (t : List ℕ). b ∷ t) rest.whole }
 
 -- what has no byte has none at its end
 none_after : (byte other : ℕ) (before after : List ℕ) → has_byte byte (before ++ other ∷ after) ≡ false → has_byte byte after ≡ false

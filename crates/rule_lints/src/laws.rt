@@ -149,7 +149,6 @@ pub fn some_commands()
 {}
 
 /// Values with which an alias is compared, of which some are reported.
-#[tactic(auto, unfolding(text_core::specs::Choices::choice, text_core::specs::Choices::choice_by, text_core::specs::Spell::first_item, text_core::specs::Spell::bracket))]
 pub fn some_aliases()
     ensures capital { is_reported_as Alias (codes "usb:v1D6Bp0002d*") ≡ false }
     ensures vendor { is_reported_as Alias (codes "usb:v1d6Bp*") ≡ true }
@@ -162,7 +161,6 @@ pub fn some_aliases()
 {}
 
 /// Values with which hexadecimal numbers are compared, of which some are reported.
-#[tactic(auto, unfolding(text_core::specs::Choices::choice, text_core::specs::Choices::choice_by, text_core::specs::Spell::first_item, text_core::specs::Spell::bracket))]
 pub fn some_numbers()
     ensures small { is_reported_as Lower (codes "046d|c52b") ≡ false }
     ensures capital { is_reported_as Lower (codes "046d|C52b") ≡ true }
@@ -173,7 +171,6 @@ pub fn some_numbers()
 {}
 
 /// Values with which something is compared that is always there, of which some are reported.
-#[tactic(auto, unfolding(text_core::specs::Choices::choice, text_core::specs::Choices::choice_by, text_core::specs::Spell::first_item, text_core::specs::Spell::bracket))]
 pub fn some_stars()
     ensures star { is_reported_to_hold (codes "*") ≡ true }
     ensures second { is_reported_to_hold (codes "sd*|**") ≡ true }

@@ -5,11 +5,11 @@ use Rattle.text_tables.specs.Texts.{Text}
 use Rattle.text_bytes.specs.Texts.{is_empty}
 use Rattle.rule_pairs.specs.Relations.{part_ways}
 
-first_holds : (a b : Bool) → (a && b) ≡ true → a ≡ true
+pub first_holds : (a b : Bool) → (a && b) ≡ true → a ≡ true
 first_holds true b h = refl
 first_holds false b h = h
 
-second_holds : (a b : Bool) → (a && b) ≡ true → b ≡ true
+pub second_holds : (a b : Bool) → (a && b) ≡ true → b ≡ true
 second_holds true b h = h
 second_holds false b h = absurd (true≢false (sym h))
 

@@ -13,9 +13,10 @@ use Rattle.rule_pairs.specs.Relations.{are_alike, are_disjoint, are_opposite, is
 use Rattle.rule_pairs.specs.Said.{Said}
 use Rattle.rule_pairs.specs.declared.form.Form.{Form}
 use Rattle.rule_pairs.specs.declared.form.Form.TheVariants as form
+use Rattle.rule_pairs.proofs.Beginnings.{first_holds, second_holds}
 
 -- tests that hold of the same are one
-both_or_none : (a b : Bool) → (a ≡ true → b ≡ true) → (b ≡ true → a ≡ true) → a ≡ b
+pub both_or_none : (a b : Bool) → (a ≡ true → b ≡ true) → (b ≡ true → a ≡ true) → a ≡ b
 both_or_none true b f g = sym (f refl)
 both_or_none false true f g = g refl
 both_or_none false false f g = refl
@@ -74,14 +75,6 @@ and_reversed true true = refl
 and_reversed true false = refl
 and_reversed false true = refl
 and_reversed false false = refl
-
-first_holds : (a b : Bool) → (a && b) ≡ true → a ≡ true
-first_holds true b h = refl
-first_holds false b h = h
-
-second_holds : (a b : Bool) → (a && b) ≡ true → b ≡ true
-second_holds true b h = h
-second_holds false b h = absurd (true≢false (sym h))
 
 pub matter_reversed : (a b : Said) → same_matter a b ≡ same_matter b a
 matter_reversed a b = rw (text_reversed a.key b.key, text_reversed a.kind b.kind, text_reversed a.name b.name, number_reversed a.number b.number) refl

@@ -9,6 +9,8 @@ use Rattle.text_tables.proofs.Found.{among_added}
 use Rattle.text_bytes.specs.Texts.{is_empty}
 use Rattle.rule_pairs.specs.Relations.{same_words}
 use Rattle.rule_pairs.specs.Words.{parts_of, with_word}
+use Rattle.rule_pairs.proofs.Beginnings.{first_holds, second_holds}
+use Rattle.rule_pairs.proofs.Likeness.{both_or_none}
 
 text_is : (a b : Text) → same_text a b ≡ true → a ≡ b
 text_is a b h = (bytes_decides a b).0 h
@@ -61,14 +63,6 @@ words_after words (part ∷ parts) word =
 pub words_between : (text word : Text) → is_among (parts_of text) word ≡ (not (is_empty word) && is_among (slice_split is_bar text) word)
 words_between text word = words_after [] (slice_split is_bar text) word
 
-first_holds : (a b : Bool) → (a && b) ≡ true → a ≡ true
-first_holds true b h = refl
-first_holds false b h = h
-
-second_holds : (a b : Bool) → (a && b) ≡ true → b ≡ true
-second_holds true b h = h
-second_holds false b h = absurd (true≢false (sym h))
-
 all_there : (ws vs : List Text) → list_all (is_among vs) ws ≡ true → (word : Text) → is_among ws word ≡ true → is_among vs word ≡ true
 all_there [] vs h word e = absurd (true≢false (sym e))
 all_there (w ∷ ws) vs h word e = by (same_text word w) refl (all_there ws vs (second_holds (is_among vs w) (list_all (is_among vs) ws) h) word) e
@@ -86,11 +80,6 @@ there_all (w ∷ ws) vs f =
     following : (a b : Bool) → b ≡ true → (a || b) ≡ true
     following true b e = refl
     following false b e = e
-
-both_or_none : (a b : Bool) → (a ≡ true → b ≡ true) → (b ≡ true → a ≡ true) → a ≡ b
-both_or_none true b f g = sym (f refl)
-both_or_none false true f g = g refl
-both_or_none false false f g = refl
 
 -- two lists have the same words exactly if the same words are among them
 pub one_set : (ws vs : List Text) → (same_words ws vs ≡ true) ↔ ((word : Text) → is_among ws word ≡ is_among vs word)

@@ -4,7 +4,6 @@ ghost use Rattle.rule_pairs.specs.Laws.{asks, asks_not, asks_not_of, asks_of, gi
 ghost use Rattle.rule_pairs.specs.declared.pair_finding.PairKind.TheVariants.{Same, Against};
 
 /// Matches, of which some exclude each other.
-#[tactic(auto, unfolding(crate::specs::Pairs::pair_findings, crate::specs::Said::said_of, crate::specs::Matters::matter_of, crate::specs::Forms::form_of, crate::specs::Words::words_of, crate::specs::Relations::is_same, crate::specs::Relations::is_against, crate::specs::Relations::beginning, crate::specs::Relations::part_ways, crate::specs::Relations::parts_from_all, rule_types::specs::Names::key_of, rule_types::specs::Operators::is_read_as_assign, rule_tokens::specs::Reading::pieces_of, rule_tokens::specs::Reading::piece_at, text_bytes::specs::Texts::split_once))]
 pub fn some_matches()
     ensures tags { reported (asks (codes "TAG") (codes "a") ∷ asks (codes "TAG") (codes "b") ∷ []) ≡ record { kind = Against; token = 1 } ∷ [] }
     ensures trimmed { reported (asks_of (codes "ATTR") (codes "a") (codes "1") ∷ asks_of (codes "ATTR") (codes "a") (codes "2") ∷ []) ≡ [] }
@@ -31,7 +30,6 @@ pub fn some_matches()
 {}
 
 /// Assignments and what is done while a rule is matched, of which some say the same.
-#[tactic(auto, unfolding(crate::specs::Pairs::pair_findings, crate::specs::Said::said_of, crate::specs::Matters::matter_of, crate::specs::Forms::form_of, crate::specs::Words::words_of, crate::specs::Relations::is_same, crate::specs::Relations::is_against, crate::specs::Relations::beginning, crate::specs::Relations::part_ways, crate::specs::Relations::parts_from_all, crate::specs::Accounts::given_in, rule_types::specs::Names::key_of, rule_types::specs::Names::import_type_of, rule_types::specs::Names::run_type_of, rule_types::specs::Operators::is_read_as_assign, rule_types::specs::Topics::mode_of, rule_types::specs::Builtins::builtin_of, rule_parts::specs::Options::option_of, rule_parts::specs::Options::priority_of, rule_templates::specs::Integers::integer_of, rule_templates::specs::Integers::size_in, rule_templates::specs::Integers::marked, rule_templates::specs::Integers::signed, rule_templates::specs::Integers::signed_size, text_bytes::specs::Numbers::decimal_below, text_bytes::specs::Texts::split_once, rule_tokens::specs::Reading::pieces_of, rule_tokens::specs::Reading::piece_at))]
 pub fn some_act_kinds()
     ensures modes { reported (gives (codes "MODE") (codes "0660") ∷ gives (codes "MODE") (codes "660") ∷ []) ≡ record { kind = Same; token = 1 } ∷ [] }
     ensures owners { reported (gives (codes "OWNER") (codes "root") ∷ gives (codes "OWNER") (codes "0") ∷ []) ≡ record { kind = Same; token = 1 } ∷ [] }

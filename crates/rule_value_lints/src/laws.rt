@@ -20,7 +20,6 @@ pub fn nothing_that_the_kernel_writes_fits()
 {}
 
 /// Values that are compared with what the kernel writes, of which some are reported.
-#[tactic(auto, unfolding(text_core::specs::Choices::choice, text_core::specs::Choices::choice_by, text_core::specs::Spell::first_item, text_core::specs::Spell::bracket))]
 pub fn some_values()
     ensures action { is_reported Action (codes "add|remove") ≡ false }
     ensures actions { is_reported Action (codes "add|REMOVE") ≡ true }

@@ -25,6 +25,14 @@ items_listed (j ∷ js) =
 pub array_listed : (js : List Json) → token.begin_array ∷ (value_tokens js ++ token.end_array ∷ []) ≡ json_tokens (array_of js)
 array_listed js = ap (λ (ts : List Token). token.begin_array ∷ ts) (items_listed js)
 
+-- an array, as it is written after other tokens
+pub array_written : (old : List Token) (js : List Json)
+    → ((old ++ token.begin_array ∷ []) ++ value_tokens js) ++ token.end_array ∷ [] ≡ old ++ json_tokens (array_of js)
+array_written old js =
+    let parts : ((old ++ token.begin_array ∷ []) ++ value_tokens js) ++ token.end_array ∷ []
+    ≡ old ++ token.begin_array ∷ (value_tokens js ++ token.end_array ∷ []) = simp append_assoc in
+    parts ∙ ap (λ (ts : List Token). old ++ ts) (array_listed js)
+
 -- a member that is an array, as it is written after others
 pub array_after : (old : List Token) (k : List ℕ) (js : List Json)
     → (((old ++ token.key k ∷ []) ++ token.begin_array ∷ []) ++ value_tokens js) ++ token.end_array ∷ [] ≡ old ++ member_tokens ((k, array_of js) ∷ [])

@@ -1,9 +1,8 @@
 use Rattle.std.proofs.Common.{List, [], ◌∷◌, ◌++◌, ap, ◌∙◌}
 use Rattle.json.specs.Token as token
 use Rattle.json.specs.Token.{Token}
-use Rattle.text_json.proofs.Listed.{values_after}
 use Rattle.lsp_answers.specs.Actions.{actions}
-use Rattle.lsp_answers.proofs.Arrays.{array_written}
+use Rattle.text_json.proofs.Listed.{array_written, values_after}
 use Rattle.lsp_answers.proofs.actions.write_actions.Goals as goal
 
 pub returns-clause-tokens : goal.returns-clause-tokens

@@ -1,5 +1,5 @@
 use Rattle.lsp_answers.specs.Labels.{references}
-use Rattle.lsp_answers.proofs.Arrays.{array_written}
+use Rattle.text_json.proofs.Listed.{array_written}
 use Rattle.lsp_answers.proofs.labels.write_references.Goals as goal
 
 pub returns-clause-tokens : goal.returns-clause-tokens

@@ -9,7 +9,7 @@ use Rattle.lsp_texts.specs.declared.counting.Encoding.{Encoding}
 use Rattle.lsp_words.specs.Completions.{Offer, completions_at}
 use Rattle.lsp_answers.specs.Offers.{completion, offered_names}
 use Rattle.lsp_answers.specs.Spots.{Spot}
-use Rattle.lsp_answers.proofs.Arrays.{array_written}
+use Rattle.text_json.proofs.Listed.{array_written}
 use Rattle.lsp_answers.proofs.offers.write_completion.Goals as goal
 use Rattle.lsp_answers.proofs.offers.write_completion.Goals.{in-Some+in_ok-write_offered_names, in_default}
 

@@ -1,4 +1,4 @@
-use Rattle.lsp_diagnostics.proofs.Written.{array_written}
+use Rattle.text_json.proofs.Listed.{array_written}
 use Rattle.lsp_diagnostics.proofs.writing.write_diagnostics.Goals as goal
 
 pub returns-clause-tokens : goal.returns-clause-tokens

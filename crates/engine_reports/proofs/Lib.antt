@@ -1,2 +1,3 @@
+pub mod Bounding
 pub mod Bounds
 pub mod Fitting

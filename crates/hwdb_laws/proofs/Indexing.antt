@@ -9,7 +9,7 @@ use Rattle.hwdb_lookup.specs.Query.{query, sourced}
 use Rattle.hwdb_lookup.specs.declared.entry.Entry.{Entry}
 use Rattle.trie_nodes.specs.Values.{listed}
 use Rattle.trie_build.specs.Sizes.{KeepsBounds, max_index_len}
-use Rattle.trie_build.proofs.Bounding.{never_too_large}
+use Rattle.engine_reports.proofs.Bounding.{never_too_large}
 use Rattle.index_reading.specs.Accepted.{Accepted}
 use Rattle.index_reading.specs.Contents.{contents}
 use Rattle.trie_core.specs.Entries.{AreTyped}

@@ -18,5 +18,4 @@ pub mod Gathering
 pub mod Prefixing
 pub mod Words
 pub mod Splitting
-pub mod Bounding
 pub mod Places

@@ -1,7 +1,7 @@
 use Rattle.std.proofs.Common.{subst, sym}
 use Rattle.std.proofs.lemmas.Result.{err_from_is_err_and}
 use Rattle.trie_build.specs.Sizes.{KeepsBounds}
-use Rattle.trie_build.proofs.Bounding.{never_too_large}
+use Rattle.engine_reports.proofs.Bounding.{never_too_large}
 use Rattle.engine_reports.proofs.Bounds.{opening_few, opening_entries_refused}
 use Rattle.engine_reports.proofs.opening.open_these.Goals as goal
 

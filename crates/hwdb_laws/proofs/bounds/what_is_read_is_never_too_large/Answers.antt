@@ -1,4 +1,4 @@
-use Rattle.trie_build.proofs.Bounding.{never_too_large}
+use Rattle.engine_reports.proofs.Bounding.{never_too_large}
 use Rattle.hwdb_laws.proofs.bounds.what_is_read_is_never_too_large.Goals as goal
 
 pub returns : goal.returns

@@ -4,9 +4,8 @@ use Rattle.std.proofs.lemmas.List.Elements.{Contains-append_left, Contains-appen
 use Rattle.text_tables.specs.Pairs.{Pair, value_of}
 use Rattle.text_tables.specs.Texts.{Text}
 use Rattle.eval_state.specs.Runs.{RunValue}
-use Rattle.eval_state.specs.declared.scene.Scene.{Scene}
 use Rattle.eval_effects.specs.Changes.{Snapshot, added_run, changes, is_kept, item_changes, made_changes, removed_item, removed_runs, removed_text, run_changes, run_text, set_item, set_text}
-use Rattle.eval_effects.specs.Items.{is_present, items}
+use Rattle.eval_effects.specs.Items.{is_present}
 
 -- what one of these gives is among what all give
 from_one : {X Y : Type 0} (f : X → List Y) (xs : List X) (x : X) (y : Y) (k : ℕ) → k < length xs → get_or xs k x ≡ x → Contains (f x) y → Contains (flat_map f xs) y
@@ -21,27 +20,27 @@ alone y = (0, omega arith, refl)
 unless : {Y : Type 0} (b : Bool) (y : Y) → b ≡ false → Contains (cond b [] (y ∷ [])) y
 unless b y e = subst (λ c. Contains (cond c [] (y ∷ [])) y) (sym e) (alone y)
 
-of_items : (was : Snapshot) (s : Scene) (text : Text) → Contains (item_changes was.items (items s)) text → Contains (changes was s) text
-of_items was s text h =
-    Contains-append_left (item_changes was.items (items s) ++ run_changes was.runs s.runs) (made_changes was.made s.made) text
-    (Contains-append_left (item_changes was.items (items s)) (run_changes was.runs s.runs) text h)
+of_items : (was now : Snapshot) (text : Text) → Contains (item_changes was.items now.items) text → Contains (changes was now) text
+of_items was now text h =
+    Contains-append_left (item_changes was.items now.items ++ run_changes was.runs now.runs) (made_changes was.made now.made) text
+    (Contains-append_left (item_changes was.items now.items) (run_changes was.runs now.runs) text h)
 
-pub set_is_said : (was : Snapshot) (s : Scene) (item : Pair) → Contains (items s) item → is_present item was.items ≡ false → Contains (changes was s) (set_text item)
-set_is_said was s item among new =
-    of_items was s (set_text item)
-    (Contains-append_right (flat_map (removed_item (items s)) was.items) (flat_map (set_item was.items) (items s)) (set_text item)
-    (from_one (set_item was.items) (items s) item (set_text item) among.0 among.1 among.2 (unless (is_present item was.items) (set_text item) new)))
+pub set_is_said : (was now : Snapshot) (item : Pair) → Contains now.items item → is_present item was.items ≡ false → Contains (changes was now) (set_text item)
+set_is_said was now item among new =
+    of_items was now (set_text item)
+    (Contains-append_right (flat_map (removed_item now.items) was.items) (flat_map (set_item was.items) now.items) (set_text item)
+    (from_one (set_item was.items) now.items item (set_text item) among.0 among.1 among.2 (unless (is_present item was.items) (set_text item) new)))
 
-pub removed_is_said : (was : Snapshot) (s : Scene) (item : Pair) → Contains was.items item → is_some (value_of (items s) item.0) ≡ false → Contains (changes was s) (removed_text item.0)
-removed_is_said was s item among gone =
-    of_items was s (removed_text item.0)
-    (Contains-append_left (flat_map (removed_item (items s)) was.items) (flat_map (set_item was.items) (items s)) (removed_text item.0)
-    (from_one (removed_item (items s)) was.items item (removed_text item.0) among.0 among.1 among.2 (unless (is_some (value_of (items s) item.0)) (removed_text item.0) gone)))
+pub removed_is_said : (was now : Snapshot) (item : Pair) → Contains was.items item → is_some (value_of now.items item.0) ≡ false → Contains (changes was now) (removed_text item.0)
+removed_is_said was now item among gone =
+    of_items was now (removed_text item.0)
+    (Contains-append_left (flat_map (removed_item now.items) was.items) (flat_map (set_item was.items) now.items) (removed_text item.0)
+    (from_one (removed_item now.items) was.items item (removed_text item.0) among.0 among.1 among.2 (unless (is_some (value_of now.items item.0)) (removed_text item.0) gone)))
 
-pub added_is_said : (was : Snapshot) (s : Scene) (run : RunValue) → Contains s.runs run → is_kept was.runs run ≡ false → Contains (changes was s) (run_text run ++ codes " added")
-added_is_said was s run among new =
+pub added_is_said : (was now : Snapshot) (run : RunValue) → Contains now.runs run → is_kept was.runs run ≡ false → Contains (changes was now) (run_text run ++ codes " added")
+added_is_said was now run among new =
     let text : Text = run_text run ++ codes " added" in
-    Contains-append_left (item_changes was.items (items s) ++ run_changes was.runs s.runs) (made_changes was.made s.made) text
-    (Contains-append_right (item_changes was.items (items s)) (run_changes was.runs s.runs) text
-    (Contains-append_right (removed_runs was.runs s.runs) (flat_map (added_run was.runs) s.runs) text
-    (from_one (added_run was.runs) s.runs run text among.0 among.1 among.2 (unless (is_kept was.runs run) text new))))
+    Contains-append_left (item_changes was.items now.items ++ run_changes was.runs now.runs) (made_changes was.made now.made) text
+    (Contains-append_right (item_changes was.items now.items) (run_changes was.runs now.runs) text
+    (Contains-append_right (removed_runs was.runs now.runs) (flat_map (added_run was.runs) now.runs) text
+    (from_one (added_run was.runs) now.runs run text among.0 among.1 among.2 (unless (is_kept was.runs run) text new))))

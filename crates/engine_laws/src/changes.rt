@@ -11,19 +11,19 @@ ghost use Rattle.eval_state.specs.declared.scene.Scene.{Scene};
 ghost use Rattle.eval_assignments.specs.Names.{is_net};
 ghost use Rattle.eval_effects.specs.Changes.{Snapshot, changes, is_kept, removed_text, run_text, set_text};
 ghost use Rattle.eval_effects.specs.Effects.{said_of};
-ghost use Rattle.eval_effects.specs.Items.{is_present, items};
+ghost use Rattle.eval_effects.specs.Items.{is_present};
 ghost use Rattle.eval_effects.specs.Named.{change_key};
 ghost use Rattle.eval_effects.specs.Shown.{shown};
 
 /// An item that is there now and was not there like this is said to be set, one whose name is no longer there to be removed,
 /// and a RUN that is new to be added.
 pub fn what_appears_and_disappears_is_said()
-    ensures set { (was : Snapshot) (s : Scene) (item : Pair) → Contains (items s) item → is_present item was.items ≡ false
-        → Contains (changes was s) (set_text item) }
-    ensures removed { (was : Snapshot) (s : Scene) (item : Pair) → Contains was.items item → is_some (value_of (items s) item.0) ≡ false
-        → Contains (changes was s) (removed_text item.0) }
-    ensures added { (was : Snapshot) (s : Scene) (run : RunValue) → Contains s.runs run → is_kept was.runs run ≡ false
-        → Contains (changes was s) (run_text run ++ codes " added") }
+    ensures set { (was now : Snapshot) (item : Pair) → Contains now.items item → is_present item was.items ≡ false
+        → Contains (changes was now) (set_text item) }
+    ensures removed { (was now : Snapshot) (item : Pair) → Contains was.items item → is_some (value_of now.items item.0) ≡ false
+        → Contains (changes was now) (removed_text item.0) }
+    ensures added { (was now : Snapshot) (run : RunValue) → Contains now.runs run → is_kept was.runs run ≡ false
+        → Contains (changes was now) (run_text run ++ codes " added") }
 {}
 
 /// What is said of each kind of note that an assignment leaves.

@@ -6,23 +6,25 @@ use Rattle.text_bytes.specs.Texts.{is_empty, split_once}
 use Rattle.text_tables.specs.Texts.{Text, same_text}
 use Rattle.text_tables.specs.Pairs.{Pair, value_of}
 use Rattle.rule_types.specs.Names.{run_name}
+use Rattle.rule_types.specs.declared.part.Change.{Change}
 use Rattle.eval_state.specs.Runs.{RunValue, run_kind, same_run}
 use Rattle.eval_state.specs.declared.made_runs.MadeRun.{MadeRun}
 use Rattle.eval_state.specs.declared.scene.Scene.{Scene}
-use Rattle.eval_effects.specs.Items.{items}
 use Rattle.eval_effects.specs.Items.{is_present}
+use Rattle.eval_effects.specs.Scope.{items_about, made_about, runs_about}
+use Rattle.eval_effects.specs.declared.scope.Fronts.{Fronts}
 use Rattle.eval_effects.specs.Shown.{shown}
 
--- what is compared between scenes: its items, its RUNs, those that udev made at their rules, and how many notes it
--- has
+-- what is compared between scenes: items, RUNs, those that udev made at their rules, and how many notes there are
 pub record Snapshot : Type 0 where
   pub items : List Pair
   pub runs : List RunValue
   pub made : List MadeRun
   pub notes : ℕ
 
-abbrev pub snapshot : Scene → Snapshot
-snapshot s = record { items = items s; runs = s.runs; made = s.made; notes = length s.notes }
+-- what there is in a scene of what an assignment can change, but for the fronts that stay
+abbrev pub snapshot : Change → Fronts → Scene → Snapshot
+snapshot c f s = record { items = items_about c f s; runs = runs_about c f s; made = made_about c f s; notes = length s.notes }
 
 -- what becomes of an item that takes a value: without one it is added
 abbrev pub value_part : Text → Text
@@ -109,5 +111,5 @@ abbrev pub made_changes : List MadeRun → List MadeRun → List Text
 made_changes was now = removed_made was now ++ map (made_run (codes " added")) (drop (stayed was now) now)
 
 -- all that changed
-abbrev pub changes : Snapshot → Scene → List Text
-changes was s = item_changes was.items (items s) ++ run_changes was.runs s.runs ++ made_changes was.made s.made
+abbrev pub changes : (was now : Snapshot) → List Text
+changes was now = item_changes was.items now.items ++ run_changes was.runs now.runs ++ made_changes was.made now.made

@@ -18,7 +18,9 @@ use Rattle.eval_assignments.specs.Steps.{set_step}
 use Rattle.eval_effects.specs.Changes.{Snapshot, changes, snapshot}
 use Rattle.eval_effects.specs.Named.{change_key, final_name, rule_place}
 use Rattle.eval_effects.specs.Shown.{joined, shown}
+use Rattle.eval_effects.specs.Scope.{fronts}
 use Rattle.eval_effects.specs.Since.{Since}
+use Rattle.eval_effects.specs.declared.scope.Fronts.{Fronts}
 
 -- a key, if there is one and it no longer changes
 abbrev pub settled_key : Finals → Option FinalKey → Option FinalKey
@@ -56,20 +58,22 @@ abbrev pub said_left : Change → Scene → Option Note → List Text
 said_left c s None = []
 said_left c s (Some note) = said_of c s note.kind note.word
 
--- an assignment that was made or left a note, by what was there before it and the scene after it: what changed, and
--- what was left out, by the first note after those that there were
-abbrev pub made_text : Change → Snapshot → Scene → Text
-made_text c was s = changed_text c (changes was s ++ said_left c s (slice_get s.notes was.notes))
+-- an assignment that was made or left a note, by the fronts that stay, what was there before it, and the scene after it: what
+-- changed, and what was left out, by the first note after those that there were
+abbrev pub made_text : Change → Fronts → Snapshot → Scene → Text
+made_text c f was s = changed_text c (changes was (snapshot c f s) ++ said_left c s (slice_get s.notes was.notes))
 
--- an assignment, by its key if that was final, what was there before it, and the scene after it; a key that no
--- earlier rule made final has been final since the rule itself
-abbrev pub effect_by : Since → Rule → Change → Option FinalKey → Snapshot → Scene → Text
-effect_by since r c (Some key) was s = final_text key (unwrap_or (since key) r)
-effect_by since r c None was s = made_text c was s
+-- an assignment, by its key if that was final, the fronts that stay, what was there before it, and the scene after it; a key
+-- that no earlier rule made final has been final since the rule itself
+abbrev pub effect_by : Since → Rule → Change → Option FinalKey → Fronts → Snapshot → Scene → Text
+effect_by since r c (Some key) f was s = final_text key (unwrap_or (since key) r)
+effect_by since r c None f was s = made_text c f was s
 
 -- what an assignment of a rule does over a scene
 unfoldable pub effect : Since → Rule → Scene → Assignment → Text
-effect since r s a = effect_by since r a.change (settled_key s.finals (final_key s.state.event.profile a.change)) (snapshot s) (set_step r s a)
+effect since r s a =
+    let f = fronts a.operator s in
+    effect_by since r a.change (settled_key s.finals (final_key s.state.event.profile a.change)) f (snapshot a.change f s) (set_step r s a)
 
 -- what assignments do, each over the scene that the one before it left
 abbrev pub effects : Since → Rule → Scene → List Assignment → List Text

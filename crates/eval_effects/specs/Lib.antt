@@ -2,6 +2,7 @@ pub mod Items
 pub mod Shown
 pub mod Named
 pub mod Since
+pub mod Scope
 pub mod Changes
 pub mod Effects
 pub mod Inner

@@ -8,10 +8,10 @@ ghost use Rattle.eval_effects.specs.Effects.{changed_text, effect, effects, endi
 ghost use Rattle.eval_effects.specs.Shown.{shown};
 
 use crate::changes::push_item_changes;
-use crate::items::items_of;
 use crate::made::push_made_changes;
 use crate::named::{final_name, push_change_key, push_rule};
 use crate::runs::push_run_changes;
+use crate::scope::Fronts;
 use crate::shown::{push_joined, push_shown};
 use crate::since::Since;
 use crate::snapshot::Snapshot;
@@ -48,14 +48,14 @@ fn note_after<'s>(count: usize, scene: &'s Scene<'_>) -> Option<&'s Note>
     scene.notes.as_slice().get(count)
 }
 
-/// All that changed since a scene was like this.
-fn changes(alloc: Global, was: &Snapshot<'_>, scene: &Scene<'_>) -> Result<Vec<Bytes>, AllocError>
-    ensures { IfOk result (λ reported. reported.items ≡ changes was.now scene.now) }
+/// All that changed, by what was there and what is there now.
+fn changes(alloc: Global, was: &Snapshot<'_>, now: &Snapshot<'_>) -> Result<Vec<Bytes>, AllocError>
+    ensures { IfOk result (λ reported. reported.items ≡ changes was.now now.now) }
 {
     let mut reported = Vec::new(alloc);
-    push_item_changes(alloc, &mut reported, was.items(), &items_of(alloc, scene)?)?;
-    push_run_changes(alloc, &mut reported, was.runs(), scene.runs.as_slice())?;
-    push_made_changes(alloc, &mut reported, was.made(), scene.made.as_slice())?;
+    push_item_changes(alloc, &mut reported, was.items(), now.items())?;
+    push_run_changes(alloc, &mut reported, was.runs(), now.runs())?;
+    push_made_changes(alloc, &mut reported, was.made(), now.made())?;
     Ok(reported)
 }
 
@@ -181,16 +181,18 @@ fn push_left(
     }
 }
 
-/// An assignment that was made or left a note, by what was there before it and the scene after it.
+/// An assignment that was made or left a note, by the fronts that stay, what was there before it, and the scene after it.
 fn made_text(
     alloc: Global,
     change: &Change,
+    fronts: Fronts,
     was: &Snapshot<'_>,
     scene: &Scene<'_>,
 ) -> Result<Bytes, AllocError>
-    ensures { IfOk result (λ text. text ≡ made_text change.now was.now scene.now) }
+    ensures { IfOk result (λ text. text ≡ made_text change.now fronts was.now scene.now) }
 {
-    let mut reported = changes(alloc, was, scene)?;
+    let now = Snapshot::of(alloc, change, fronts, scene)?;
+    let mut reported = changes(alloc, was, &now)?;
     let left = note_after(was.notes(), scene);
     push_left(alloc, &mut reported, change, scene, left)?;
     changed_text(alloc, change, &reported)
@@ -211,11 +213,12 @@ fn set_and_report<'a>(
 {
     let profile = scene.state.event.event().profile();
     let settled = settled_key(scene.finals, final_key(profile, &assignment.change));
-    let was = Snapshot::of(alloc, scene)?;
+    let fronts = Fronts::of(assignment.operator, scene);
+    let was = Snapshot::of(alloc, &assignment.change, fronts, scene)?;
     set_one(alloc, rule, assignment, scene)?;
     match settled {
         Some(key) => final_text(alloc, key, since.rule_or(key, rule)),
-        None => made_text(alloc, &assignment.change, &was, scene),
+        None => made_text(alloc, &assignment.change, fronts, &was, scene),
     }
 }
 

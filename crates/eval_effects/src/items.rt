@@ -1,8 +1,8 @@
 //! What is in a scene, as items.
-ghost use Rattle.std.specs.Prelude.{◌≡◌, ◌++◌, ◌∷◌, [], codes, IfOk, OnOk};
+ghost use Rattle.std.specs.Prelude.{◌≡◌, ◌++◌, ◌∷◌, [], codes, drop, flat_map, map, option_map, IfOk, OnOk};
 ghost use Rattle.text_bytes.specs.Names.{equals};
 ghost use Rattle.eval_state.specs.Texts.{filled};
-ghost use Rattle.eval_assignments.specs.Tags.{current_tags};
+ghost use Rattle.eval_assignments.specs.Lists.{without_texts};
 ghost use Rattle.eval_effects.specs.Inner.{tag_item};
 ghost use Rattle.eval_effects.specs.Items.{given_item, item_name, items, label_item, label_items, node_items, pair_items};
 ghost use Rattle.eval_effects.specs.Items.{persist_item, priority_item, text_items, watch_item, watch_word};
@@ -105,19 +105,55 @@ fn push_given(
     }
 }
 
+/// Adds what has a name as an item, if it is there.
+pub(crate) fn push_named(
+    alloc: Global,
+    items: &mut Vec<Item>,
+    word: &[u8],
+    name: &[u8],
+    value: Option<&[u8]>,
+) -> Result<(), AllocError>
+    ensures { OnOk result (items.new.items ≡ items.old.items ++ given_item (item_name word.now name.now) (option_map (λ v. v.now) value.entry)) }
+{
+    match value {
+        Some(value) => push_item(alloc, items, item_name(alloc, word, name)?, value),
+        None => Ok(()),
+    }
+}
+
+/// The texts after so many.
+pub fn texts_after(texts: &[Vec<u8>], count: usize) -> &[Vec<u8>]
+    ensures { result.now ≡ drop count texts.now }
+{
+    texts.split_at(count.min(texts.len())).1
+}
+
 /// Adds texts as items.
 fn push_texts(
     alloc: Global,
     items: &mut Vec<Item>,
     word: &[u8],
-    texts: &OwnedTexts,
+    texts: &[Vec<u8>],
 ) -> Result<(), AllocError>
-    ensures { OnOk result (items.new.items ≡ items.old.items ++ text_items word.now texts.now) }
+    ensures { OnOk result (items.new.items ≡ items.old.items ++ text_items word.now (map (λ t. t.items) texts.now)) }
 {
-    for text in texts.as_slice() {
+    for text in texts {
         push_item(alloc, items, item_name(alloc, word, text)?, b"")?;
     }
     Ok(())
+}
+
+/// Adds the links after so many.
+pub(crate) fn push_links(
+    alloc: Global,
+    items: &mut Vec<Item>,
+    scene: &Scene<'_>,
+    count: usize,
+) -> Result<(), AllocError>
+    ensures { OnOk result (items.new.items ≡ items.old.items ++ text_items (codes "link") (drop count scene.now.state.links)) }
+{
+    let links = texts_after(scene.state.links.as_slice(), count);
+    push_texts(alloc, items, b"link", links)
 }
 
 /// Adds a tag, unless it was removed.
@@ -135,18 +171,37 @@ fn push_tag(
     Ok(())
 }
 
-/// Adds the tags that were not removed.
-fn push_tags(alloc: Global, items: &mut Vec<Item>, scene: &Scene<'_>) -> Result<(), AllocError>
-    ensures { OnOk result (items.new.items ≡ items.old.items ++ text_items (codes "tag") (current_tags scene.now)) }
+/// Adds those of some tags that were not removed.
+fn push_each_tag(
+    alloc: Global,
+    items: &mut Vec<Item>,
+    gone: &OwnedTexts,
+    tags: &[Vec<u8>],
+) -> Result<(), AllocError>
+    ensures { OnOk result (items.new.items ≡ items.old.items ++ flat_map (tag_item gone.now) (map (λ t. t.items) tags.now)) }
 {
-    for tag in scene.state.tags.as_slice() {
-        push_tag(alloc, items, &scene.gone, tag)?;
+    for tag in tags {
+        push_tag(alloc, items, gone, tag)?;
     }
     Ok(())
 }
 
+/// Adds the tags after so many, but for those that were removed.
+pub(crate) fn push_tags(
+    alloc: Global,
+    items: &mut Vec<Item>,
+    scene: &Scene<'_>,
+    count: usize,
+) -> Result<(), AllocError>
+    ensures { OnOk result (items.new.items
+        ≡ items.old.items ++ text_items (codes "tag") (without_texts (drop count scene.now.state.tags) scene.now.gone)) }
+{
+    let tags = texts_after(scene.state.tags.as_slice(), count);
+    push_each_tag(alloc, items, &scene.gone, tags)
+}
+
 /// Adds names with their values as items.
-fn push_pairs(
+pub(crate) fn push_pairs(
     alloc: Global,
     items: &mut Vec<Item>,
     word: &[u8],
@@ -196,7 +251,7 @@ pub fn label_item(alloc: Global, profile: Profile, label: &Label) -> Result<Item
 }
 
 /// Adds labels as items.
-fn push_labels(
+pub(crate) fn push_labels(
     alloc: Global,
     items: &mut Vec<Item>,
     profile: Profile,
@@ -273,7 +328,11 @@ fn push_persist(alloc: Global, items: &mut Vec<Item>, persist: bool) -> Result<(
 
 /// Adds the items of the device's node.
 #[tactic(auto, unfolding(crate::specs::Items::node_items))]
-fn push_node(alloc: Global, items: &mut Vec<Item>, scene: &Scene<'_>) -> Result<(), AllocError>
+pub(crate) fn push_node(
+    alloc: Global,
+    items: &mut Vec<Item>,
+    scene: &Scene<'_>,
+) -> Result<(), AllocError>
     ensures { OnOk result (items.new.items ≡ items.old.items ++ node_items scene.now) }
 {
     push_name(alloc, items, &scene.state.name)?;
@@ -295,8 +354,8 @@ pub fn items_of(alloc: Global, scene: &Scene<'_>) -> Result<Vec<Item>, AllocErro
     push_node(alloc, &mut found, scene)?;
     let profile = scene.state.event.event().profile();
     push_labels(alloc, &mut found, profile, scene.labels.as_slice())?;
-    push_texts(alloc, &mut found, b"link", &scene.state.links)?;
-    push_tags(alloc, &mut found, scene)?;
+    push_links(alloc, &mut found, scene, 0)?;
+    push_tags(alloc, &mut found, scene, 0)?;
     push_pairs(alloc, &mut found, b"env", &scene.state.env)?;
     push_pairs(alloc, &mut found, b"attr", &scene.attrs)?;
     push_pairs(alloc, &mut found, b"sysctl", &scene.sysctls)?;

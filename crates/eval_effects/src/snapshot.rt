@@ -1,14 +1,16 @@
-//! What is kept from a scene, to compare a later one with it.
+//! What is looked at in a scene, to compare it with another one.
 ghost use Rattle.std.specs.Prelude.{◌≡◌, IfOk};
 ghost use Rattle.eval_effects.specs.Changes.{snapshot};
 
-use crate::items::{Item, items_of};
+use crate::items::Item;
+use crate::scope::{Fronts, items_about, made_about, runs_about};
 use eval_state::{MadeRun, Run, Scene};
+use rule_types::Change;
 use std::alloc::{AllocError, Global};
 use std::marker::Model;
 use text_bytes::Bytes;
 
-/// The items of a scene, its RUNs, those that udev made at their rules, and how many notes it has.
+/// Items of a scene, RUNs, those that udev made at their rules, and how many notes it has.
 #[derive(Drop)]
 pub(crate) struct Snapshot<'a> {
     items: Vec<Item>,
@@ -65,14 +67,19 @@ fn copied_made<'a>(alloc: Global, made: &[MadeRun<'a>]) -> Result<Vec<MadeRun<'a
 }
 
 impl<'a> Snapshot<'a> {
-    /// What there is in a scene.
-    pub(crate) fn of(alloc: Global, scene: &Scene<'a>) -> Result<Snapshot<'a>, AllocError>
-        ensures { IfOk result (λ s. s ≡ snapshot scene.now) }
+    /// What there is in a scene of what an assignment can change, but for the fronts that stay.
+    pub(crate) fn of(
+        alloc: Global,
+        change: &Change,
+        fronts: Fronts,
+        scene: &Scene<'a>,
+    ) -> Result<Snapshot<'a>, AllocError>
+        ensures { IfOk result (λ s. s ≡ snapshot change.now fronts scene.now) }
     {
         Ok(Snapshot {
-            items: items_of(alloc, scene)?,
-            runs: copied(alloc, scene.runs.as_slice())?,
-            made: copied_made(alloc, scene.made.as_slice())?,
+            items: items_about(alloc, change, fronts, scene)?,
+            runs: copied(alloc, runs_about(change, fronts, scene))?,
+            made: copied_made(alloc, made_about(change, fronts, scene))?,
             notes: scene.notes.as_slice().len(),
         })
     }

@@ -7,7 +7,7 @@ ghost use Rattle.eval_sources.specs.Touched as names;
 use crate::found::{Found, push_bare, push_found};
 use crate::node::push_node;
 use crate::touched::Sizes;
-use eval_effects::item_name;
+use eval_effects::{item_name, texts_after};
 use eval_state::Scene;
 use rule_types::{Assignment, Change, Rule, Target};
 use std::alloc::{AllocError, Global};
@@ -146,17 +146,6 @@ fn push_named(
     }
 }
 
-/// The texts after so many.
-fn after(texts: &[Vec<u8>], count: usize) -> &[Vec<u8>]
-    ensures { result.now ≡ drop count texts.now }
-{
-    if count < texts.len() {
-        texts.split_at(count).1
-    } else {
-        texts.split_at(texts.len()).1
-    }
-}
-
 /// Adds these links.
 fn push_each_link(
     alloc: Global,
@@ -185,7 +174,7 @@ fn push_links(
         alloc,
         found,
         scene,
-        after(scene.state.links.as_slice(), count),
+        texts_after(scene.state.links.as_slice(), count),
     )
 }
 
@@ -217,7 +206,7 @@ fn push_tags(
         alloc,
         found,
         scene,
-        after(scene.state.tags.as_slice(), count),
+        texts_after(scene.state.tags.as_slice(), count),
     )
 }
 

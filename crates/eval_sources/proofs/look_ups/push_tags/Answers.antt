@@ -9,5 +9,5 @@ pub returns : goal.returns
 returns c =
     let raw : List (Vec ℕ Global) = c.as_slice.result.now in
     subst (λ (texts : List Text). OnOk c.push_each_tag.result (c.push_each_tag.new.found.items ≡ c.args.found.now.items ++ found (items c.args.scene.now) (of_tags texts)))
-    (ap (λ (l : List (Vec ℕ Global)). map (λ t. t.items) l) c.after.ensures ∙ sym (drop-map (λ (t : Vec ℕ Global). t.items) c.args.count raw) ∙ ap (drop c.args.count) c.as_slice.ensures.texts)
+    (ap (λ (l : List (Vec ℕ Global)). map (λ t. t.items) l) c.texts_after.ensures ∙ sym (drop-map (λ (t : Vec ℕ Global). t.items) c.args.count raw) ∙ ap (drop c.args.count) c.as_slice.ensures.texts)
     c.push_each_tag.ensures

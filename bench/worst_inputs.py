@@ -177,8 +177,10 @@ TOLD = [
     Case("links with their sources", 2_000, lambda n: told("--sources", each('SYMLINK+="l#"\n', n)), 12),
     Case("tags with their sources", 2_000, lambda n: told("--sources", each('TAG+="t#"\n', n)), 12),
     Case("properties with their sources", 2_000, lambda n: told("--sources", each('ENV{P#}="#"\n', n)), 12),
-    # what a rule did to the commands is found by a comparison of those before it with those after it, one by one
-    Case("commands, each with what its rule did", 500, lambda n: told("--why=r.rules", each('RUN+="c#"\n', n)), 150),
+    Case("links, each with what its rule did", 2_000, lambda n: told("--why=r.rules", each('SYMLINK+="l#"\n', n)), 12),
+    Case("tags, each with what its rule did", 2_000, lambda n: told("--why=r.rules", each('TAG+="t#"\n', n)), 12),
+    Case("properties, each with what its rule did", 2_000, lambda n: told("--why=r.rules", each('ENV{P#}="#"\n', n)), 12),
+    Case("commands, each with what its rule did", 2_000, lambda n: told("--why=r.rules", each('RUN+="c#"\n', n)), 12),
 ]
 
 UDEV = [

@@ -106,6 +106,74 @@ pub fn what_goes_is_told_first_and_the_ends_of_texts_are_seen()
         ∷ codes "why r.rules:5: reached its end: tag \"u \" added, env C=\"z \" set" ∷ codes "" ∷ []) }
 {}
 
+/// With `--why` each assignment says what became of the items of its key, or of the RUNs: what was there already is not told.
+pub fn each_assignment_says_what_became_of_its_own_items()
+    ensures lists { explained
+        (text (
+        codes "SYMLINK+=\"a b\", TAG+=\"t\"" ∷ codes "SYMLINK+=\"b c\", TAG+=\"u\", TAG+=\"t\"" ∷ codes "SYMLINK-=\"a\", TAG-=\"t\""
+        ∷ codes "TAG+=\"t\", SYMLINK=\"a\"" ∷ codes "SYSCTL{a.b}=\"4\"" ∷ []))
+        (codes "C: add\nP: /d\nG: k\nS: i")
+        ≡ text (
+        codes "event add /d" ∷ codes "link a" ∷ codes "tag k" ∷ codes "tag u" ∷ codes "tag t" ∷ codes "env ACTION=add" ∷ codes "env DEVPATH=/d"
+        ∷ codes "sysctl a.b=4" ∷ codes "why r.rules:1: reached its end: tag t added, link a added, link b added"
+        ∷ codes "why r.rules:2: reached its end: tag u added, TAG changes nothing, link c added"
+        ∷ codes "why r.rules:3: reached its end: tag t removed, link a removed"
+        ∷ codes "why r.rules:4: reached its end: tag t added, link i removed, link b removed, link c removed, link a added"
+        ∷ codes "why r.rules:5: reached its end: sysctl a.b=4 set" ∷ codes "" ∷ []) }
+    ensures lists_as_udev { explained_as_udev
+        (text (
+        codes "SYMLINK+=\"a b\", TAG+=\"t\"" ∷ codes "SYMLINK+=\"b c\", TAG+=\"u\", TAG+=\"t\"" ∷ codes "SYMLINK-=\"a\", TAG-=\"t\""
+        ∷ codes "TAG+=\"t\", SYMLINK=\"a\"" ∷ codes "SYSCTL{a.b}=\"4\"" ∷ []))
+        (codes "C: add\nP: /d\nD: 8:0\nG: k\nA: x=y\nS: i")
+        ≡ text (
+        codes "event add /d" ∷ codes "link a" ∷ codes "tag k" ∷ codes "tag t" ∷ codes "tag u" ∷ codes "env ACTION=add" ∷ codes "env DEVPATH=/d"
+        ∷ codes "env MAJOR=8" ∷ codes "env MINOR=0" ∷ codes "sysctl a/b=4"
+        ∷ codes "why r.rules:1: reached its end: tag t added, link a added, link b added"
+        ∷ codes "why r.rules:2: reached its end: tag u added, TAG changes nothing, link c added"
+        ∷ codes "why r.rules:3: reached its end: tag t removed, link a removed"
+        ∷ codes "why r.rules:4: reached its end: tag t added, link i removed, link b removed, link c removed, link a added"
+        ∷ codes "why r.rules:5: reached its end: sysctl a/b=4 set" ∷ codes "" ∷ []) }
+    ensures keys { explained
+        (text (
+        codes "NAME=\"n\", OWNER=\"o\", GROUP=\"g\", MODE=\"0660\"" ∷ codes "NAME=\"m\", OWNER=\"\", OPTIONS=\"link_priority=5\", OPTIONS=\"watch\""
+        ∷ codes "OPTIONS=\"nowatch\", OPTIONS=\"db_persist\", SECLABEL{m}=\"l\", ATTR{a}=\"b\"" ∷ codes "SYSCTL{c}=\"d\", ENV{E}=\"f\", RUN+=\"r\""
+        ∷ codes "SECLABEL{k}+=\"n\", ATTR{a}=\"b\", ATTR{x}=\"y\", SYSCTL{c}=\"e\"" ∷ codes "ENV{E}=\"\", ENV{F}=\"g\", RUN+=\"r\", RUN+=\"s\""
+        ∷ codes "SECLABEL{k}=\"n\", ENV{E}=\"h\"" ∷ codes "RUN=\"s\"" ∷ []))
+        (codes "C: add\nP: /d\nU: net\nE: F=g")
+        ≡ text (
+        codes "event add /d" ∷ codes "name m" ∷ codes "group g" ∷ codes "mode 0660" ∷ codes "priority 5" ∷ codes "nowatch" ∷ codes "persist"
+        ∷ codes "label k=n" ∷ codes "env ACTION=add" ∷ codes "env DEVPATH=/d" ∷ codes "env E=h" ∷ codes "env F=g" ∷ codes "env SUBSYSTEM=net"
+        ∷ codes "attr a=b" ∷ codes "attr x=y" ∷ codes "sysctl c=e" ∷ codes "run program s"
+        ∷ codes "why r.rules:1: reached its end: owner=o set, group=g set, mode=0660 set, name=n set"
+        ∷ codes "why r.rules:2: reached its end: priority=5 set, watch added, owner removed, name=m set"
+        ∷ codes "why r.rules:3: reached its end: watch removed, nowatch added, persist added, label m=l set, attr a=b set"
+        ∷ codes "why r.rules:4: reached its end: env E=f set, sysctl c=d set, run program r added"
+        ∷ codes "why r.rules:5: reached its end: label k=n set, ATTR{a} changes nothing, attr x=y set, sysctl c=e set"
+        ∷ codes "why r.rules:6: reached its end: env E removed, ENV{F} changes nothing, RUN changes nothing, run program s added"
+        ∷ codes "why r.rules:7: reached its end: label m removed, env E=h set" ∷ codes "why r.rules:8: reached its end: run program r removed"
+        ∷ codes "" ∷ []) }
+    ensures keys_as_udev { explained_as_udev
+        (text (
+        codes "NAME=\"n\", OWNER=\"o\", GROUP=\"g\", MODE=\"0660\"" ∷ codes "NAME=\"m\", OWNER=\"\", OPTIONS=\"link_priority=5\", OPTIONS=\"watch\""
+        ∷ codes "OPTIONS=\"nowatch\", OPTIONS=\"db_persist\", SECLABEL{m}=\"l\", ATTR{a}=\"b\"" ∷ codes "SYSCTL{c}=\"d\", ENV{E}=\"f\", RUN+=\"r\""
+        ∷ codes "SECLABEL{k}+=\"n\", ATTR{a}=\"b\", ATTR{x}=\"y\", SYSCTL{c}=\"e\"" ∷ codes "ENV{E}=\"\", ENV{F}=\"g\", RUN+=\"r\", RUN+=\"s\""
+        ∷ codes "SECLABEL{k}=\"n\", ENV{E}=\"h\"" ∷ codes "RUN=\"s\"" ∷ []))
+        (codes "C: add\nP: /d\nD: 8:0\nG: k\nA: x=y\nS: i")
+        ≡ text (
+        codes "event add /d" ∷ codes "owner o" ∷ codes "group g" ∷ codes "mode 0660" ∷ codes "priority 5" ∷ codes "nowatch" ∷ codes "persist"
+        ∷ codes "label k=n" ∷ codes "link i" ∷ codes "tag k" ∷ codes "env ACTION=add" ∷ codes "env DEVPATH=/d" ∷ codes "env E=h" ∷ codes "env F=g"
+        ∷ codes "env MAJOR=8" ∷ codes "env MINOR=0" ∷ codes "attr a=b" ∷ codes "attr x=y" ∷ codes "sysctl c=e" ∷ codes "run program s"
+        ∷ codes "note r.rules:1: name ignored: n" ∷ codes "note r.rules:2: no value: OWNER" ∷ codes "note r.rules:2: name ignored: m"
+        ∷ codes "why r.rules:1: reached its end: owner=o set, group=g set, mode=0660 set, NAME ignored, no network device"
+        ∷ codes "why r.rules:2: reached its end: watch added, priority=5 set, OWNER ignored, no value, NAME ignored, no network device"
+        ∷ codes "why r.rules:3: reached its end: persist added, watch removed, nowatch added, label m=l added, attr a=b set"
+        ∷ codes "why r.rules:4: reached its end: env E=f set, sysctl c=d set, run program r added"
+        ∷ codes "why r.rules:5: reached its end: label k=n added, ATTR{a} changes nothing, attr x=y set, sysctl c=e set"
+        ∷ codes "why r.rules:6: reached its end: env E removed, env F=g set, run program r added, run program s added"
+        ∷ codes "why r.rules:7: reached its end: label m=l removed, env E=h set"
+        ∷ codes "why r.rules:8: reached its end: run program r removed, run program r removed, run program s removed, run program s added" ∷ codes "" ∷ []) }
+{}
+
 /// With `--udev --why` a rule that is skipped says which of its keys do nothing and why, an import what it removes, and NAME of a network
 /// device that it is no interface.
 pub fn what_udev_leaves_out_says_why()

@@ -8,6 +8,7 @@ use Rattle.devdry_options.specs.Files.{bad_line, said_of, words_of}
 use Rattle.devdry_options.specs.declared.files.OptionsFault.{OptionsFault}
 use Rattle.devdry_options.specs.declared.files.OptionsFault.TheVariants.{BadLine, Memory}
 use Rattle.devdry.specs.Options.{DoesByFile, RefusesLine}
+use Rattle.devdry.specs.Ran.{Run}
 use Rattle.devdry.specs.Reading.{IsRefusedToRead}
 use Rattle.devdry.specs.Reporting.{ReportsOptionsFault}
 
@@ -20,19 +21,19 @@ without : {X : Type 0} (o : Option X) (A : Type 0) (B : X → Type 0) → None �
 without o A B is a = subst (λ p. MatchOption p A B) is a
 
 -- a file without a bad line
-pub taken : (With : List (List ℕ) → Type 0) (path bytes : List ℕ) (added : List (List ℕ)) (status : ℕ) (before now : Streams)
-    → None ≡ bad_line bytes → added ≡ words_of bytes → With added ⊎ IsRefusedToRead status before now → DoesByFile With path bytes status before now
+pub taken : (With : List (List ℕ) → Run) (path bytes : List ℕ) (added : List (List ℕ)) (status : ℕ) (before now : Streams)
+    → None ≡ bad_line bytes → added ≡ words_of bytes → With added status before now ⊎ IsRefusedToRead status before now → DoesByFile With path bytes status before now
 taken With path bytes added status before now none is does = elim does [
-  | inl with_added ↦ inl (without (bad_line bytes) (With (words_of bytes)) (λ line. RefusesLine path line status before now) none (subst With is with_added))
+  | inl with_added ↦ inl (without (bad_line bytes) (With (words_of bytes) status before now) (λ line. RefusesLine path line status before now) none (subst (λ words. With words status before now) is with_added))
   | inr refused ↦ inr refused
 ]
 
 -- a file with a bad line, or one that memory did not suffice to read
-pub refused : (With : List (List ℕ) → Type 0) (path bytes : List ℕ) (fault : OptionsFault) (status : ℕ) (before now : Streams) → AnswersFile path bytes fault
+pub refused : (With : List (List ℕ) → Run) (path bytes : List ℕ) (fault : OptionsFault) (status : ℕ) (before now : Streams) → AnswersFile path bytes fault
     → ReportsOptionsFault fault status before.err now.err → now.out ≡ before.out → now.input ≡ before.input → DoesByFile With path bytes status before now
 refused With path bytes (BadLine said) status before now answers reports untouched unread = inl (by (bad_line bytes) answers)
   where
-    by : (o : Option NumberedLine) → IsSomeAnd o (λ line. said ≡ said_of path line) → MatchOption o (With (words_of bytes)) (λ line. RefusesLine path line status before now)
+    by : (o : Option NumberedLine) → IsSomeAnd o (λ line. said ≡ said_of path line) → MatchOption o (With (words_of bytes) status before now) (λ line. RefusesLine path line status before now)
     by None h = absurd h
     by (Some line) h = record {
       reports = subst (λ text. ReportsFailure text 2 status before.err now.err) h reports;

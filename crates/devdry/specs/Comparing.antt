@@ -1,10 +1,9 @@
 -- What `compare` does with two lines of `events`.
-use Rattle.std.specs.Prelude.{◌≡◌, ◌++◌, ℕ, ◌⊎◌, Bool, true, false, List, Option, max}
+use Rattle.std.specs.Prelude.{◌≡◌, ◌++◌, ℕ, ◌⊎◌, List, Option, max}
 use Rattle.text_bytes.specs.declared.source_file.SourceFile.{SourceFile}
 use Rattle.engine_ends.specs.Readers.{is_for_people}
 use Rattle.engine_ends.specs.declared.line.Line.{Line}
 use Rattle.engine_ends.specs.Streams.{Streams}
-use Rattle.devdry_files.specs.Answers.{Answer}
 use Rattle.devdry_files.specs.Faults.{HasPath, IsFaultyWanted}
 use Rattle.devdry_files.specs.Found.{AreWanted}
 use Rattle.devdry_files.specs.Places.{Wants}
@@ -17,16 +16,17 @@ use Rattle.devdry_folders.specs.declared.reading.Report.{Report}
 use Rattle.devdry.specs.Finding.{ComparesFinding}
 use Rattle.devdry.specs.PartialRuns.{RunsAfter}
 use Rattle.devdry.specs.Failing.{FailsFor, IsSaidOfBoth}
+use Rattle.devdry.specs.Ran.{MayAnswer, Run, either, if_so}
 use Rattle.devdry.specs.Reading.{AreReadFor, IsFaultOf, IsRefusedToRead}
 
 -- the files are those that the line asks for
-pub record AreFilesFor (may : Answer → Type 0) (line : Line) (files : List SourceFile) : Type 0 where
+pub record AreFilesFor (may : MayAnswer) (line : Line) (files : List SourceFile) : Type 0 where
   pub wanted : Wanted
   pub wants : Wants line wanted
   pub are_files : AreWanted may wanted files
 
 -- the fault is about one of the files or folders that the line asks for, or memory ran out
-abbrev pub IsFileFault : (Answer → Type 0) → Line → ReadFault → Type 0
+abbrev pub IsFileFault : MayAnswer → Line → ReadFault → Type 0
 IsFileFault may line fault = (fault ≡ Memory)
     ⊎ ((wanted : Wanted) × Wants line wanted × HasPath (IsFaultyWanted may wanted) fault)
 
@@ -36,7 +36,7 @@ pub record AreReported (one other report : Report) : Type 0 where
   pub least : report.least ≡ max one.least other.least
 
 -- what is reported on the files of both lines, that on the old ones first
-pub record AreReportedOnBoth (may : Answer → Type 0) (old new : Line) (old_files new_files : List SourceFile) (report : Report) : Type 0 where
+pub record AreReportedOnBoth (may : MayAnswer) (old new : Line) (old_files new_files : List SourceFile) (report : Report) : Type 0 where
   pub on_old : Report
   pub on_new : Report
   pub old_is : IsReportOnFiles may old old_files on_old
@@ -45,14 +45,14 @@ pub record AreReportedOnBoth (may : Answer → Type 0) (old new : Line) (old_fil
 
 -- the files of the old line, and those of the new one with the index, are those that the lines ask for, and where files
 -- were looked for is reported if one of the lines has none
-pub record AreReadForBoth (may : Answer → Type 0) (old new : Line) (old_files new_files : List SourceFile) (index : Option (List ℕ))
+pub record AreReadForBoth (may : MayAnswer) (old new : Line) (old_files new_files : List SourceFile) (index : Option (List ℕ))
     (report : Report) : Type 0 where
   pub old_are : AreFilesFor may old old_files
   pub new_are : AreReadFor may new new_files index
   pub reported : AreReportedOnBoth may old new old_files new_files report
 
 -- the files of the old line, and those of the new one with the index, are what can be read of what the lines ask for
-pub record AreReadOfBoth (may : Answer → Type 0) (old new : Line) (old_files new_files : List SourceFile) (index : Option (List ℕ))
+pub record AreReadOfBoth (may : MayAnswer) (old new : Line) (old_files new_files : List SourceFile) (index : Option (List ℕ))
     (report : Report) : Type 0 where
   pub some_old : ReadSome
   pub some_new : ReadSome
@@ -64,23 +64,22 @@ pub record AreReadOfBoth (may : Answer → Type 0) (old new : Line) (old_files n
   pub reported : AreReported some_old.report some_new.report report
 
 -- the files of the old line were read, and the fault is about what the new one asks for
-pub record IsFaultOfNew (may : Answer → Type 0) (old new : Line) (fault : ReadFault) : Type 0 where
+pub record IsFaultOfNew (may : MayAnswer) (old new : Line) (fault : ReadFault) : Type 0 where
   pub old_files : List SourceFile
   pub old_are : AreFilesFor may old old_files
   pub new_is : IsFaultOf may new fault
 
 -- the first fault at what the two lines ask for, the old one first
-abbrev pub IsFaultOfBoth : (Answer → Type 0) → Line → Line → ReadFault → Type 0
+abbrev pub IsFaultOfBoth : MayAnswer → (old new : Line) → ReadFault → Type 0
 IsFaultOfBoth may old new fault = IsFileFault may old fault ⊎ IsFaultOfNew may old new fault
 
 -- what is reported is written first, and then the answers to the input are compared
-abbrev pub ComparesAfter : (Answer → Type 0) → Line → Line → List SourceFile → List SourceFile → Option (List ℕ) → Report
-    → ℕ → Streams → Streams → Type 0
-ComparesAfter may old new old_files new_files index report status before now =
-    RunsAfter report.lines.items report.least (ComparesFinding may old new old_files new_files index) status before now
+abbrev pub ComparesAfter : MayAnswer → (old new : Line) → (old_files new_files : List SourceFile) → (index : Option (List ℕ)) → Report → Run
+ComparesAfter may old new old_files new_files index report =
+    RunsAfter report.lines.items report.least (ComparesFinding may old new old_files new_files index)
 
 -- For what was read of the two lines this holds, and their answers are compared after what is reported.
-pub record ComparesRead (may : Answer → Type 0) (Read : List SourceFile → List SourceFile → Option (List ℕ) → Report → Type 0)
+pub record ComparesRead (may : MayAnswer) (Read : List SourceFile → List SourceFile → Option (List ℕ) → Report → Type 0)
     (old new : Line) (status : ℕ) (before now : Streams) : Type 0 where
   pub old_files : List SourceFile
   pub new_files : List SourceFile
@@ -90,21 +89,15 @@ pub record ComparesRead (may : Answer → Type 0) (Read : List SourceFile → Li
   pub over : ComparesAfter may old new old_files new_files index report status before now
 
 -- what `compare` does with two lines if it ends at what can't be read
-abbrev pub ComparesWanted : (Answer → Type 0) → Line → Line → ℕ → Streams → Streams → Type 0
-ComparesWanted may old new status before now =
-    ComparesRead may (AreReadForBoth may old new) old new status before now
-    ⊎ FailsFor (is_for_people old.format) (IsSaidOfBoth may old new) (IsFaultOfBoth may old new) status before now
+abbrev pub ComparesWanted : MayAnswer → (old new : Line) → Run
+ComparesWanted may old new =
+    either (ComparesRead may (AreReadForBoth may old new) old new)
+    (FailsFor (is_for_people old.format) (IsSaidOfBoth may old new) (IsFaultOfBoth may old new))
 
 -- what it does with two lines if it goes on after that
-abbrev pub ComparesSome : (Answer → Type 0) → Line → Line → ℕ → Streams → Streams → Type 0
-ComparesSome may old new status before now =
-    ComparesRead may (AreReadOfBoth may old new) old new status before now ⊎ IsRefusedToRead status before now
-
--- what it does by whether it goes on
-abbrev pub ComparesBy : Bool → (Answer → Type 0) → Line → Line → ℕ → Streams → Streams → Type 0
-ComparesBy true may old new status before now = ComparesSome may old new status before now
-ComparesBy false may old new status before now = ComparesWanted may old new status before now
+abbrev pub ComparesSome : MayAnswer → (old new : Line) → Run
+ComparesSome may old new = either (ComparesRead may (AreReadOfBoth may old new) old new) IsRefusedToRead
 
 -- what `compare` does with two lines
-abbrev pub ComparesLines : (Answer → Type 0) → Line → Line → ℕ → Streams → Streams → Type 0
-ComparesLines may old new status before now = ComparesBy old.all may old new status before now
+abbrev pub ComparesLines : MayAnswer → (old new : Line) → Run
+ComparesLines may old new = if_so old.all (ComparesSome may old new) (ComparesWanted may old new)

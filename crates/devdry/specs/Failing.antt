@@ -1,21 +1,21 @@
 -- What people are told if something that a line asks for can't be read.
-use Rattle.std.specs.Prelude.{◌≡◌, ◌++◌, ℕ, Bool, if◌then◌else◌, List, MatchBool, string_bytes}
+use Rattle.std.specs.Prelude.{◌≡◌, ◌++◌, ℕ, Bool, if◌then◌else◌, List, string_bytes}
 use Rattle.text_bytes.specs.Texts.{is_empty}
 use Rattle.engine_ends.specs.Delivery.{ReportsFailure, out_of_memory}
 use Rattle.engine_ends.specs.Readers.{is_for_people}
 use Rattle.engine_ends.specs.Streams.{Streams}
 use Rattle.engine_ends.specs.declared.line.Line.{Line}
-use Rattle.devdry_files.specs.Answers.{Answer}
 use Rattle.devdry_files.specs.declared.fault.ReadFault.{ReadFault}
 use Rattle.devdry_files.specs.declared.fault.ReadFault.TheVariants.{Memory, Path}
 use Rattle.devdry_folders.specs.Advice.{IsAdvice}
 use Rattle.devdry.specs.Noting.{IsHintAt}
+use Rattle.devdry.specs.Ran.{MayAnswer, Run, if_so}
 use Rattle.devdry.specs.Reading.{FailsAt}
 use Rattle.devdry.specs.Reporting.{cannot_read}
 
 -- what people are told about a path that the line asks for: a hint on it if there is one, the line on it, what is wrong, and
 -- what to do about it
-pub record IsSaidAt (may : Answer → Type 0) (line : Line) (path said : List ℕ) : Type 0 where
+pub record IsSaidAt (may : MayAnswer) (line : Line) (path said : List ℕ) : Type 0 where
   pub hint : List ℕ
   pub is_hint : IsHintAt may line path hint
   pub advice : List ℕ
@@ -23,7 +23,7 @@ pub record IsSaidAt (may : Answer → Type 0) (line : Line) (path said : List �
   pub said_is : said ≡ hint ++ (cannot_read path ++ advice)
 
 -- the same for two lines: the advice is that by the first of them, if there is any
-pub record IsSaidOfBoth (may : Answer → Type 0) (old new : Line) (path said : List ℕ) : Type 0 where
+pub record IsSaidOfBoth (may : MayAnswer) (old new : Line) (path said : List ℕ) : Type 0 where
   pub of_old : List ℕ
   pub of_new : List ℕ
   pub old_is : IsAdvice may old path of_old
@@ -52,6 +52,5 @@ pub record TellsPeople (IsSaid : (path said : List ℕ) → Type 0) (IsFault : R
   pub untouched : now.out ≡ before.out
 
 -- what is reported because of a fault, for people or not
-abbrev pub FailsFor : (for_people : Bool) → (IsSaid : (path said : List ℕ) → Type 0) → (IsFault : ReadFault → Type 0) → ℕ → Streams → Streams → Type 0
-FailsFor for_people IsSaid IsFault status before now =
-    MatchBool for_people (TellsPeople IsSaid IsFault status before now) (FailsAt IsFault status before now)
+abbrev pub FailsFor : (for_people : Bool) → (IsSaid : (path said : List ℕ) → Type 0) → (IsFault : ReadFault → Type 0) → Run
+FailsFor for_people IsSaid IsFault = if_so for_people (TellsPeople IsSaid IsFault) (FailsAt IsFault)

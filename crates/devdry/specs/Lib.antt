@@ -1,6 +1,7 @@
 pub mod Noting
 pub mod PartialRuns
 pub mod Reading
+pub mod Ran
 pub mod Finding
 pub mod Knowing
 pub mod Piping

@@ -1,11 +1,9 @@
 -- The .link files for a request, as they come from the disk.
-use Rattle.std.specs.Prelude.{◌≡◌, ℕ, [], MatchBool}
+use Rattle.std.specs.Prelude.{◌≡◌, [], MatchBool}
 use Rattle.text_bytes.specs.Texts.{is_empty}
 use Rattle.engine_ends.specs.declared.line.Line.{Line}
 use Rattle.engine_ends.specs.declared.line.Request.{Request}
-use Rattle.engine_ends.specs.declared.line.Request.TheVariants.{Run, Files, Compare}
-use Rattle.engine_ends.specs.Streams.{Streams}
-use Rattle.devdry_files.specs.Answers.{Answer}
+use Rattle.engine_ends.specs.declared.line.Request.TheVariants as asked
 use Rattle.devdry_files.specs.Inside.{MayInside}
 use Rattle.devdry_folders.specs.declared.reading.Report.{Report}
 use Rattle.devdry_links.specs.Reading.{AreLinksRead}
@@ -13,9 +11,10 @@ use Rattle.devdry_links.specs.declared.reading.LinksRead.{LinksRead}
 use Rattle.devdry.specs.Comparing.{AreReported}
 use Rattle.devdry.specs.Finding.{does_as_udev}
 use Rattle.devdry.specs.PartialRuns.{RunsAfter}
+use Rattle.devdry.specs.Ran.{MayAnswer, Run, if_so}
 
 -- The .link files inside the line's root were read. The line has those that count, and what is reported is about the others.
-pub record HasLinks (may : Answer → Type 0) (named line : Line) (report : Report) : Type 0 where
+pub record HasLinks (may : MayAnswer) (named line : Line) (report : Report) : Type 0 where
   pub read : LinksRead
   pub is_read : AreLinksRead (MayInside may named.root.now) named.root.now read
   pub links : line ≡ record named { links = read.links }
@@ -28,11 +27,11 @@ pub record Stays (named line : Line) (report : Report) : Type 0 where
   pub least : report.least ≡ 0
 
 -- a line that answers events as udev does gets the .link files of its root, and any other stays as it is
-abbrev pub ReadsLinks : (Answer → Type 0) → (named line : Line) → Report → Type 0
+abbrev pub ReadsLinks : MayAnswer → (named line : Line) → Report → Type 0
 ReadsLinks may named line report = MatchBool (does_as_udev named) (HasLinks may named line report) (Stays named line report)
 
 -- Both lines of `compare` get theirs; what is reported is about the old one's first.
-pub record ReadsBoth (may : Answer → Type 0) (old_named new_named old new : Line) (report : Report) : Type 0 where
+pub record ReadsBoth (may : MayAnswer) (old_named new_named old new : Line) (report : Report) : Type 0 where
   pub on_old : Report
   pub on_new : Report
   pub reads_old : ReadsLinks may old_named old on_old
@@ -40,13 +39,12 @@ pub record ReadsBoth (may : Answer → Type 0) (old_named new_named old new : Li
   pub both : AreReported on_old on_new report
 
 -- the same request, with the .link files of its lines; `files` names no interface
-abbrev pub ReadsRequest : (Answer → Type 0) → Request → Request → Report → Type 0
-ReadsRequest may (Run named) (Run line) report = ReadsLinks may named line report
-ReadsRequest may (Files named) (Files line) report = Stays named line report
-ReadsRequest may (Compare old_named new_named) (Compare old new) report = ReadsBoth may old_named new_named old new report
+abbrev pub ReadsRequest : MayAnswer → Request → Request → Report → Type 0
+ReadsRequest may (asked.Run named) (asked.Run line) report = ReadsLinks may named line report
+ReadsRequest may (asked.Files named) (asked.Files line) report = Stays named line report
+ReadsRequest may (asked.Compare old_named new_named) (asked.Compare old new) report = ReadsBoth may old_named new_named old new report
 ReadsRequest may named request report = ⊥
 
 -- a run after what is reported, or the run alone if that is nothing
-abbrev pub RunsReported : Report → (ℕ → Streams → Streams → Type 0) → ℕ → Streams → Streams → Type 0
-RunsReported report Own status before now =
-    MatchBool (is_empty report.lines.items) (Own status before now) (RunsAfter report.lines.items report.least Own status before now)
+abbrev pub RunsReported : Report → Run → Run
+RunsReported report Own = if_so (is_empty report.lines.items) Own (RunsAfter report.lines.items report.least Own)

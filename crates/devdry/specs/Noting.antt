@@ -2,7 +2,6 @@
 use Rattle.std.specs.Prelude.{◌≡◌, ℕ, Bool, true, false, if◌then◌else◌, List, [], MatchBool}
 use Rattle.text_bytes.specs.declared.source_file.SourceFile.{SourceFile}
 use Rattle.engine_ends.specs.declared.line.Line.{Line}
-use Rattle.devdry_files.specs.Answers.{Answer}
 use Rattle.devdry_files.specs.Answers.Answer.{Looked}
 use Rattle.devdry_files.specs.Inside.{MayInside}
 use Rattle.devdry_files.specs.declared.look.Look.{Look}
@@ -12,6 +11,7 @@ use Rattle.devdry_notes.specs.Asked.{asks_folder, asks_root}
 use Rattle.devdry_notes.specs.Lying.{asks_lying}
 use Rattle.devdry_notes.specs.Notes.{folder_note}
 use Rattle.devdry_notes.specs.Told.{notes_of}
+use Rattle.devdry.specs.Ran.{MayAnswer}
 
 -- whether a folder was seen
 abbrev pub is_folder : Look → Bool
@@ -19,11 +19,11 @@ is_folder Folder = true
 is_folder _ = false
 
 -- whether there is a folder at the path, as the disk may show it
-abbrev pub IsThere : (Answer → Type 0) → (path : List ℕ) → Bool → Type 0
+abbrev pub IsThere : MayAnswer → (path : List ℕ) → Bool → Type 0
 IsThere may path there = (look : Look) × may (Looked path look) × (there ≡ is_folder look)
 
 -- whether there is a folder at the root of the line, if it asks about that; otherwise nothing is looked at
-abbrev pub IsRootSeen : (Answer → Type 0) → Line → Bool → Type 0
+abbrev pub IsRootSeen : MayAnswer → Line → Bool → Type 0
 IsRootSeen may line there = MatchBool (asks_root line) (IsThere may line.root.now there) (there ≡ false)
 
 -- the note on a folder, if there is one
@@ -31,19 +31,19 @@ abbrev pub note_if : Bool → (path : List ℕ) → List ℕ
 note_if there path = if there then folder_note path else []
 
 -- the note on a folder if there is one, as the disk may show it
-abbrev pub IsNoteAt : (Answer → Type 0) → (path note : List ℕ) → Type 0
+abbrev pub IsNoteAt : MayAnswer → (path note : List ℕ) → Type 0
 IsNoteAt may path note = (there : Bool) × IsThere may path there × (note ≡ note_if there path)
 
 -- the hint on a file at the path: the note on a folder, if the line asks about that; otherwise nothing is looked at
-abbrev pub IsHintAt : (Answer → Type 0) → Line → (path hint : List ℕ) → Type 0
+abbrev pub IsHintAt : MayAnswer → Line → (path hint : List ℕ) → Type 0
 IsHintAt may line path hint = MatchBool (asks_folder line path) (IsNoteAt may path hint) (hint ≡ [])
 
 -- the paths of the rules files in the folders of a line's root, if it asks about them; otherwise nothing is looked at
-abbrev pub AreLyingFor : (Answer → Type 0) → Line → (paths : List (List ℕ)) → Type 0
+abbrev pub AreLyingFor : MayAnswer → Line → (paths : List (List ℕ)) → Type 0
 AreLyingFor may line paths = MatchBool (asks_lying line) (AreLying (MayInside may line.root.now) line.root.now paths) (paths ≡ [])
 
 -- the notes are all that there is to tell about the files that were read for the line
-pub record AreNotesOf (may : Answer → Type 0) (line : Line) (files : List SourceFile) (notes : List ℕ) : Type 0 where
+pub record AreNotesOf (may : MayAnswer) (line : Line) (files : List SourceFile) (notes : List ℕ) : Type 0 where
   pub there : Bool
   pub seen : IsRootSeen may line there
   pub lying : List (List ℕ)

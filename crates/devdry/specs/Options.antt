@@ -1,16 +1,16 @@
 -- What a file of options comes to.
-use Rattle.std.specs.Prelude.{◌≡◌, ℕ, ◌⊎◌, List, MatchOption}
+use Rattle.std.specs.Prelude.{◌≡◌, ℕ, List}
 use Rattle.text_bytes.specs.Lines.{NumberedLine}
 use Rattle.engine_ends.specs.Delivery.{ReportsFailure}
 use Rattle.engine_ends.specs.Streams.{Streams}
-use Rattle.devdry_files.specs.Answers.{Answer}
 use Rattle.devdry_files.specs.Faults.{HasPath, IsUnread}
 use Rattle.devdry_files.specs.declared.fault.ReadFault.{ReadFault}
 use Rattle.devdry_options.specs.Files.{bad_line, said_of, words_of}
+use Rattle.devdry.specs.Ran.{MayAnswer, Run, either, if_none}
 use Rattle.devdry.specs.Reading.{IsRefusedToRead}
 
 -- the fault is about the file at the path, which the disk may say that it can't read, or memory ran out
-abbrev pub IsFaultAt : (Answer → Type 0) → (path : List ℕ) → ReadFault → Type 0
+abbrev pub IsFaultAt : MayAnswer → (path : List ℕ) → ReadFault → Type 0
 IsFaultAt may path fault = HasPath (λ p. (p ≡ path) × IsUnread may p) fault
 
 -- What is wrong with a line of the file at the path is reported with status 2; no input is read, and the output stays as it is.
@@ -21,6 +21,5 @@ pub record RefusesLine (path : List ℕ) (line : NumberedLine) (status : ℕ) (b
 
 -- what comes of the bytes of the file at the path: what is done with its words, or what is wrong with its first bad line;
 -- memory may run out in place of each
-abbrev pub DoesByFile : (List (List ℕ) → Type 0) → (path bytes : List ℕ) → ℕ → Streams → Streams → Type 0
-DoesByFile With path bytes status before now =
-    MatchOption (bad_line bytes) (With (words_of bytes)) (λ line. RefusesLine path line status before now) ⊎ IsRefusedToRead status before now
+abbrev pub DoesByFile : (With : List (List ℕ) → Run) → (path bytes : List ℕ) → Run
+DoesByFile With path bytes = either (if_none (bad_line bytes) (With (words_of bytes)) (RefusesLine path)) IsRefusedToRead

@@ -1,7 +1,7 @@
 //! Runs that name network interfaces by `.link` files.
-ghost use Rattle.std.specs.Prelude.{◌≡◌, ◌&&◌, [], IfOk};
+ghost use Rattle.std.specs.Prelude.{◌≡◌, [], IfOk};
 ghost use Rattle.devdry.specs.Linking.{HasLinks, ReadsBoth, ReadsLinks, ReadsRequest, RunsReported};
-ghost use Rattle.devdry.specs.Runs.{DoesAfter, RunsLinking, takes_blocks};
+ghost use Rattle.devdry.specs.Runs.{DoesFrom, RunsLinking};
 
 use crate::comparing::joined;
 use crate::finding::does_as_udev;
@@ -52,7 +52,7 @@ fn run_reported<D: Disk, I: Source, W: Sink, E: Sink>(
     output: &mut W,
     error: &mut E,
 ) -> u8
-    ensures { RunsReported report.now (DoesAfter (from_terminal && takes_blocks request.now) (D.may_answer disk.now) request.now) result
+    ensures { RunsReported report.now (DoesFrom from_terminal (D.may_answer disk.now) request.now) result
         (record { input = I.shown input.old; out = W.shown output.old; err = E.shown error.old })
         (record { input = I.shown input.new; out = W.shown output.new; err = E.shown error.new }) }
 {

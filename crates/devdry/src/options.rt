@@ -1,9 +1,10 @@
 //! Runs of words that name a file of options.
-ghost use Rattle.std.specs.Prelude.{◌≡◌, ◌⊎◌, IfErr, IfOk, MatchOption, map, option_map, string_bytes};
+ghost use Rattle.std.specs.Prelude.{◌≡◌, ◌⊎◌, IfErr, IfOk, map, option_map, string_bytes};
 ghost use Rattle.devdry_files.specs.Answers.Answer.{Content};
 ghost use Rattle.devdry_files.specs.FaultsAt.{fault_of};
 ghost use Rattle.devdry_words.specs.Options.{with_options};
 ghost use Rattle.devdry.specs.Options.{DoesByFile, IsFaultAt};
+ghost use Rattle.devdry.specs.Ran.{if_none};
 ghost use Rattle.devdry.specs.Reading.{IsRefusedToRead};
 ghost use Rattle.devdry.specs.Runs.{Runs, RunsAlone, RunsWithFile};
 
@@ -51,13 +52,11 @@ fn run_named<D: Disk, I: Source, W: Sink, E: Sink>(
     output: &mut W,
     error: &mut E,
 ) -> u8
-    ensures { MatchOption (option_map (λ p. p.now) named.entry)
-        (RunsAlone terminals (D.may_answer disk.now) (map string_bytes words.now) result
+    ensures { if_none (option_map (λ p. p.now) named.entry)
+        (RunsAlone terminals (D.may_answer disk.now) (map string_bytes words.now))
+        (λ path. RunsWithFile terminals (D.may_answer disk.now) path (map string_bytes words.now)) result
         (record { input = I.shown input.old; out = W.shown output.old; err = E.shown error.old })
-        (record { input = I.shown input.new; out = W.shown output.new; err = E.shown error.new }))
-        (λ path. RunsWithFile terminals (D.may_answer disk.now) path (map string_bytes words.now) result
-        (record { input = I.shown input.old; out = W.shown output.old; err = E.shown error.old })
-        (record { input = I.shown input.new; out = W.shown output.new; err = E.shown error.new })) }
+        (record { input = I.shown input.new; out = W.shown output.new; err = E.shown error.new }) }
 {
     match named {
         None => run_alone(alloc, disk, words, terminals, input, output, error),
@@ -112,9 +111,7 @@ fn run_by_file<D: Disk, I: Source, W: Sink, E: Sink>(
     output: &mut W,
     error: &mut E,
 ) -> u8
-    ensures { DoesByFile (λ added. RunsAlone terminals (D.may_answer disk.now) (with_options added (map string_bytes words.now)) result
-        (record { input = I.shown input.old; out = W.shown output.old; err = E.shown error.old })
-        (record { input = I.shown input.new; out = W.shown output.new; err = E.shown error.new }))
+    ensures { DoesByFile (λ added. RunsAlone terminals (D.may_answer disk.now) (with_options added (map string_bytes words.now)))
         path.now bytes.now result
         (record { input = I.shown input.old; out = W.shown output.old; err = E.shown error.old })
         (record { input = I.shown input.new; out = W.shown output.new; err = E.shown error.new }) }

@@ -1,5 +1,5 @@
 //! Runs that name the standard input as a file.
-ghost use Rattle.std.specs.Prelude.{◌≡◌, MatchOption, option_map};
+ghost use Rattle.std.specs.Prelude.{◌≡◌, option_map};
 ghost use Rattle.devdry.specs.Piping.{ReportsInputFault, input_named, input_of, names_input};
 ghost use Rattle.devdry.specs.Runs.{RunsPiped, RunsWithInput};
 

@@ -1,9 +1,9 @@
 //! The way from words to a status.
-ghost use Rattle.std.specs.Prelude.{◌≡◌, ◌&&◌, ◌⊎◌, IfErr, IfOk, map, string_bytes};
+ghost use Rattle.std.specs.Prelude.{◌≡◌, ◌⊎◌, IfErr, IfOk, map, string_bytes};
 ghost use Rattle.engine_ends.specs.Sinks.{SinkState};
 ghost use Rattle.engine_ends.specs.Sources.{SourceState};
 ghost use Rattle.devdry.specs.Reading.{AreReadFor, IsFaultOf, IsRefusedToRead};
-ghost use Rattle.devdry.specs.Runs.{DoesAfter, DoesRequest, FailsWanted, RunsAlone, RunsBy, RunsLine, RunsRead, RunsWanted, takes_blocks};
+ghost use Rattle.devdry.specs.Runs.{DoesFrom, DoesRequest, FailsWanted, RunsAlone, RunsLine, RunsRead, RunsReading, RunsWanted, takes_blocks};
 
 use crate::comparing::run_compare;
 use crate::failing::fail_wanted;
@@ -69,7 +69,7 @@ pub(crate) fn run_request<D: Disk, I: Source, W: Sink, E: Sink>(
     output: &mut W,
     error: &mut E,
 ) -> u8
-    ensures { DoesAfter (from_terminal && takes_blocks request.now) (D.may_answer disk.now) request.now result
+    ensures { DoesFrom from_terminal (D.may_answer disk.now) request.now result
         (record { input = I.shown input.old; out = W.shown output.old; err = E.shown error.old })
         (record { input = I.shown input.new; out = W.shown output.new; err = E.shown error.new }) }
 {
@@ -143,7 +143,7 @@ fn run_reading<D: Disk, I: Source, W: Sink, E: Sink>(
     output: &mut W,
     error: &mut E,
 ) -> u8
-    ensures { RunsBy line.now.all (D.may_answer disk.now) line.now result
+    ensures { RunsReading (D.may_answer disk.now) line.now result
         (record { input = I.shown input.old; out = W.shown output.old; err = E.shown error.old })
         (record { input = I.shown input.new; out = W.shown output.new; err = E.shown error.new }) }
 {

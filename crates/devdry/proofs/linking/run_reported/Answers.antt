@@ -1,16 +1,16 @@
-use Rattle.std.proofs.Common.{◌≡◌, ◌&&◌, false, inl, rules, subst, sym}
+use Rattle.std.proofs.Common.{◌≡◌, false, inl, rules, subst, sym}
 use Rattle.std.specs.Prelude.{MatchBool}
 use Rattle.text_bytes.specs.Texts.{is_empty}
 use Rattle.engine_ends.specs.Sinks.{HandsOn}
 use Rattle.engine_ends.specs.Streams.{Streams}
 use Rattle.devdry.specs.PartialRuns.{RunsAfter}
-use Rattle.devdry.specs.Runs.{DoesAfter, takes_blocks}
+use Rattle.devdry.specs.Runs.{DoesFrom}
 use Rattle.devdry.proofs.linking.run_reported.Goals as goal
 
 pub returns-in-Ok : goal.returns-in-Ok
 returns-in-Ok g c =
     let report = c.args.report.now in
-    let does = DoesAfter (c.args.from_terminal && takes_blocks c.args.request.now) (g.D.Disk.may_answer c.args.disk.now) c.args.request.now in
+    let does = DoesFrom c.args.from_terminal (g.D.Disk.may_answer c.args.disk.now) c.args.request.now in
     let before : Streams = record { input = g.I.Source.shown c.args.input.now; out = g.W.Sink.shown c.args.output.now; err = g.E.Sink.shown c.args.error.now } in
     let now : Streams = record { input = g.I.Source.shown c.run_request-own.new.input; out = g.W.Sink.shown c.run_request-own.new.output; err = g.E.Sink.shown c.run_request-own.new.error } in
     let is : is_empty report.lines.items ≡ false = search rules in

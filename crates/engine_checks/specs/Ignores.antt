@@ -5,14 +5,13 @@ use Rattle.std.specs.Prelude.{option_to_list}
 use Rattle.std.specs.List.{range_with_len, slice_split, starts_with}
 use Rattle.text_bytes.specs.Lines.{NumberedLine, numbered_lines}
 use Rattle.text_bytes.specs.Numbers.{capped}
-use Rattle.text_bytes.specs.Names.{comma}
-use Rattle.text_bytes.specs.Texts.{following, trimmed, unindented}
+use Rattle.text_bytes.specs.Names.{comma, hash}
+use Rattle.text_bytes.specs.Texts.{begins_with, following, trimmed, unindented}
 use Rattle.text_bytes.specs.declared.profile.Profile.{Profile}
 use Rattle.text_bytes.specs.declared.source_file.FileKind.{FileKind}
 use Rattle.text_bytes.specs.declared.source_file.FileKind.TheVariants.{Hwdb, Rules}
 use Rattle.text_bytes.specs.declared.source_file.SourceFile.{SourceFile}
 use Rattle.text_tables.specs.Texts.{Text}
-use Rattle.hwdb_core.specs.Lines.{is_comment}
 use Rattle.rule_core.specs.Lines.{joined_lines}
 use Rattle.engine_checks.specs.declared.ignores.Scope.{Scope}
 use Rattle.engine_checks.specs.declared.ignores.Scope.TheVariants.{File, Next, Unread}
@@ -103,7 +102,7 @@ next_after starts line = find (nat_lt line) starts
 -- are not comments
 abbrev pub starts_of : Profile → FileKind → List ℕ → List ℕ
 starts_of profile Rules bytes = map (λ l. l.number) (joined_lines profile bytes).lines ++ option_to_list (joined_lines profile bytes).open_at
-starts_of profile Hwdb bytes = map (λ l. capped l.number) (filter (λ l. not (is_comment l.text)) (numbered_lines bytes))
+starts_of profile Hwdb bytes = map (λ l. capped l.number) (filter (λ l. not (begins_with hash l.text)) (numbered_lines bytes))
 
 -- the codes in lines, where each comment on the next rule is about the first of these starts after it
 abbrev pub ignores_among : FileKind → List ℕ → List NumberedLine → List Ignore

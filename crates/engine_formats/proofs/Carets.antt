@@ -7,10 +7,11 @@ use Rattle.std.proofs.lemmas.List.{drop-drop, drop-take, drop_all, length-take, 
 use Rattle.std.proofs.lemmas.List.Sums.{prefix_len-le-length}
 use Rattle.text_bytes.specs.Lines.{lines}
 use Rattle.text_bytes.specs.Names.{caret, newline, space, tab}
+use Rattle.text_bytes.specs.Texts.{up_to as first_part}
 use Rattle.engine_formats.specs.Diagnostics.{DiagnosticValue}
 use Rattle.engine_formats.specs.Human.{advice_line, continues, first_start, human_lines, mark_line, safe_lines, shown_byte, source_line, source_lines, tilde, title_line, under, window, window_start}
 use Rattle.engine_formats.specs.Masked.{masked, masked_after, safe}
-use Rattle.engine_formats.specs.Marks.{PointsAt, before_caret, columns, columns_from, line_after}
+use Rattle.engine_formats.specs.Marks.{PointsAt, columns, columns_from, line_after}
 use Rattle.engine_formats.specs.Paints.{escape_code, paint_of, paint_start, paint_stop}
 use Rattle.engine_formats.specs.Readers.{HasPlace}
 use Rattle.engine_formats.specs.declared.paint.Paint.{Paint}
@@ -65,14 +66,14 @@ spaces_have_no_caret (b ∷ bytes) = lacks-append caret (under space b) (flat_ma
   by_test false = refl
 
 -- what comes before the mark takes the columns of what is shown before the place
-below : (paint : Paint) (before place : List ℕ) → columns (before_caret (mark_body paint before place)) ≡ columns (codes "  " ++ map shown_byte before)
+below : (paint : Paint) (before place : List ℕ) → columns (first_part caret (mark_body paint before place)) ≡ columns (codes "  " ++ map shown_byte before)
 unfolding mark_body
 below paint before place =
     let row : List ℕ = flat_map (under space) before in
     let prefix : List ℕ = codes "  " ++ row ++ paint_start paint in
     let tildes : List ℕ = flat_map (under tilde) (drop 1 place) in
     let lacks = lacks-append caret (codes "  " ++ row) (paint_start paint) (lacks-append caret (codes "  ") row refl (spaces_have_no_caret before)) (start_has_no_caret paint) in
-    ap (λ (t : List ℕ). columns (before_caret t)) (append_assoc (prefix ++ codes "^") tildes (paint_stop paint) ∙ append_assoc prefix (codes "^") (tildes ++ paint_stop paint))
+    ap (λ (t : List ℕ). columns (first_part caret t)) (append_assoc (prefix ++ codes "^") tildes (paint_stop paint) ∙ append_assoc prefix (codes "^") (tildes ++ paint_stop paint))
     ∙ ap columns (up_to (λ b. eqb b caret) prefix caret (tildes ++ paint_stop paint) lacks refl)
     ∙ ap (λ (n : ℕ). suc (suc n)) (under_columns before (paint_start paint) (start_columns paint))
 

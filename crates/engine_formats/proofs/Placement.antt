@@ -6,10 +6,9 @@ use Rattle.std.proofs.lemmas.List.{get_or_default}
 use Rattle.std.proofs.lemmas.List.Elements.{All-append, All-cons, All-drop, All-filter, All-from_get_or, All-head, All-map, All-nil, All-tail, All-take, All-weaker}
 use Rattle.text_bytes.specs.Lines.{NumberedLine, lines, numbered_from, numbered_lines}
 use Rattle.text_bytes.specs.Numbers.{capped}
-use Rattle.text_bytes.specs.Texts.{word_of}
 use Rattle.file_messages.specs.Messages.{message}
-use Rattle.text_bytes.specs.Names.{equals}
-use Rattle.text_bytes.specs.Texts.{skip_while, trimmed}
+use Rattle.text_bytes.specs.Names.{equals, hash}
+use Rattle.text_bytes.specs.Texts.{begins_with, skip_while, trimmed, up_to, word_of}
 use Rattle.file_messages.specs.declared.message.Message.{Message}
 use Rattle.file_messages.specs.declared.message.MessageKind.{MessageKind}
 use Rattle.file_messages.specs.declared.message.MessageKind.TheVariants.{PropertyWithoutMatch, MatchWithoutProperty, UnindentedLine, NoEquals, EmptyKey, PatternNotSupported}
@@ -17,7 +16,7 @@ use Rattle.text_bytes.specs.declared.source_file.SourceFile.{SourceFile}
 use Rattle.text_core.specs.Spell.{spell}
 use Rattle.text_core.specs.declared.glob_fault.GlobFault.{GlobFault}
 use Rattle.text_core.specs.declared.item.Item.{Item}
-use Rattle.hwdb_core.specs.Lines.{before_comment, cleaned, is_comment, lines_of}
+use Rattle.hwdb_core.specs.Lines.{cleaned, lines_of}
 use Rattle.hwdb_core.specs.Messages.{about_bare, about_early, about_match, about_pair, about_property, about_spelled, cut_messages}
 use Rattle.hwdb_core.specs.Paragraphs.{cut, has_lines, is_empty_line, is_match, is_property, paragraphs}
 use Rattle.hwdb_core.specs.Properties.{pair_at, property_text}
@@ -55,7 +54,7 @@ module _ (bytes : List ℕ) (few : length (lines bytes) < 2 ^ 32) where
 
   -- a line is what is left of such a line
   abbrev IsLeft : NumberedLine → Type 0
-  IsLeft l = (trimmed (before_comment (line_numbered there l.number)) ≡ l.text) × (l.number < 2 ^ 32) × HasLine l.number
+  IsLeft l = (trimmed (up_to hash (line_numbered there l.number)) ≡ l.text) × (l.number < 2 ^ 32) × HasLine l.number
 
   -- a message keeps the first bytes of the text at its place, and its line is there
   abbrev KeepsWord : Message → Type 0
@@ -73,9 +72,9 @@ module _ (bytes : List ℕ) (few : length (lines bytes) < 2 ^ 32) where
 
   left_lines : All IsLeft (lines_of bytes)
   left_lines =
-      let kept : NumberedLine → Bool = λ (l : NumberedLine). not (is_comment l.text) in
+      let kept : NumberedLine → Bool = λ (l : NumberedLine). not (begins_with hash l.text) in
       All-map IsLeft cleaned (filter kept there)
-      (All-weaker IsPresent (λ l. IsLeft (cleaned l)) (λ l h. (ap (λ (t : List ℕ). trimmed (before_comment t)) h.0, h.1, subst (λ (t : List ℕ). Contains there (record { number = l.number; text = t })) (sym h.0) h.2)) (filter kept there) (All-filter kept IsPresent there all_in_place))
+      (All-weaker IsPresent (λ l. IsLeft (cleaned l)) (λ l h. (ap (λ (t : List ℕ). trimmed (up_to hash t)) h.0, h.1, subst (λ (t : List ℕ). Contains there (record { number = l.number; text = t })) (sym h.0) h.2)) (filter kept there) (All-filter kept IsPresent there all_in_place))
 
   onto : (l : NumberedLine) (parts : List (List NumberedLine)) → IsLeft l → All (λ ls. All IsLeft ls) parts → All (λ ls. All IsLeft ls) (onto_first l parts)
   onto l [] h k = All-cons (λ ls. All IsLeft ls) (l ∷ []) [] (All-cons IsLeft l [] h (All-nil IsLeft)) (All-nil (λ ls. All IsLeft ls))
@@ -97,7 +96,7 @@ module _ (bytes : List ℕ) (few : length (lines bytes) < 2 ^ 32) where
   keeps : (file : List ℕ) (l : NumberedLine) (kind : MessageKind) (text : List ℕ) → IsLeft l → text ≡ reported_text l.text kind → KeepsWord (message file l.number kind text)
   keeps file l kind text h same =
       let number : capped l.number ≡ l.number = omega (arith, h.1) in (
-        ap (λ (n : ℕ). word_of (reported_text (trimmed (before_comment (line_numbered there n))) kind)) number
+        ap (λ (n : ℕ). word_of (reported_text (trimmed (up_to hash (line_numbered there n))) kind)) number
             ∙ ap (λ (t : List ℕ). word_of (reported_text t kind)) h.0 ∙ ap word_of (sym same),
         subst HasLine (sym number) h.2,
       )

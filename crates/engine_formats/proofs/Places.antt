@@ -2,10 +2,9 @@
 use Rattle.std.proofs.Common.{◌≡◌, ℕ, ◌+◌, ◌-◌, ◌^◌, ◌<◌, Bool, true, false, cond, List, [], ◌++◌, drop, length, take, refl, ap, sym, ◌∙◌, arith, append_assoc, length-append}
 use Rattle.std.specs.List.{prefix_len, suffix_len}
 use Rattle.std.proofs.lemmas.List.{drop_at, take-append-drop, take_at}
-use Rattle.text_bytes.specs.Names.{is_blank, is_whitespace}
-use Rattle.text_bytes.specs.Texts.{trimmed, unindented}
+use Rattle.text_bytes.specs.Names.{hash, is_blank, is_whitespace}
+use Rattle.text_bytes.specs.Texts.{trimmed, unindented, up_to}
 use Rattle.file_messages.specs.declared.message.MessageKind.{MessageKind}
-use Rattle.hwdb_core.specs.Lines.{before_comment}
 use Rattle.engine_formats.specs.Placing.{is_about_property, place_in, reported_text}
 
 -- a text begins another
@@ -21,9 +20,9 @@ unfolding Begins
 begin_of_begin first second text h k =
     (h.0 ++ k.0, k.1 ∙ ap (λ (t : List ℕ). t ++ k.0) h.1 ∙ append_assoc first h.0 k.0)
 
-clean_begins : (source : List ℕ) → Begins (trimmed (before_comment source)) source
+clean_begins : (source : List ℕ) → Begins (trimmed (up_to hash source)) source
 clean_begins source =
-    let text : List ℕ = before_comment source in
+    let text : List ℕ = up_to hash source in
     begin_of_begin (trimmed text) text source (first_begin (length text - suffix_len is_whitespace text) text) (first_begin _ source)
 
 -- what comes before the text that is reported
@@ -42,7 +41,7 @@ pub word_at : (source : List ℕ) (kind : MessageKind) → length source < 2 ^ 3
     × (take ((place_in source kind).end - (place_in source kind).column) (drop ((place_in source kind).column - 1) source) ≡ (place_in source kind).word)
 unfolding Begins
 word_at source kind short =
-    let clean : List ℕ = trimmed (before_comment source) in
+    let clean : List ℕ = trimmed (up_to hash source) in
     let word : List ℕ = reported_text clean kind in
     let following = clean_begins source in
     let lead = before_reported clean kind in

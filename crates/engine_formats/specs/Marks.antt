@@ -1,8 +1,9 @@
 -- Where the mark of a place is, as a reader sees it.
 use Rattle.std.specs.Prelude.{◌≡◌, ℕ, suc, ◌-◌, ◌<◌, Bool, true, false, not, ◌==◌, if◌then◌else◌}
-use Rattle.std.specs.Prelude.{List, [], ◌∷◌, ◌++◌, drop, map, slice_index_or, take, take_while}
+use Rattle.std.specs.Prelude.{List, [], ◌∷◌, ◌++◌, drop, map, slice_index_or, take}
 use Rattle.text_bytes.specs.Lines.{lines}
 use Rattle.text_bytes.specs.Names.{caret}
+use Rattle.text_bytes.specs.Texts.{up_to}
 use Rattle.engine_formats.specs.Human.{continues, shown_byte}
 use Rattle.engine_formats.specs.Paints.{escape_code}
 
@@ -26,10 +27,6 @@ columns_from false (b ∷ text) =
 abbrev pub columns : List ℕ → ℕ
 columns text = columns_from false text
 
--- a line up to its first `^`
-abbrev pub before_caret : List ℕ → List ℕ
-before_caret line = take_while (λ b. not (b == caret)) line
-
 -- the line of a text that follows this many others, without its newline
 abbrev pub line_after : ℕ → List ℕ → List ℕ
 line_after others text = slice_index_or (lines text) others []
@@ -41,4 +38,4 @@ pub record PointsAt (source : List ℕ) (column : ℕ) (shown marks : List ℕ) 
   pub room : ℕ
   pub some : 0 < room
   pub place : shown ≡ before ++ map shown_byte (take room (drop (column - 1) source))
-  pub below : columns (before_caret marks) ≡ columns before
+  pub below : columns (up_to caret marks) ≡ columns before

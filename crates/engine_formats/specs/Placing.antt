@@ -2,11 +2,11 @@
 use Rattle.std.specs.Prelude.{ℕ, ◌+◌, ◌-◌, Bool, true, false, if◌then◌else◌, List, [], length, slice_index_or}
 use Rattle.text_bytes.specs.Lines.{NumberedLine}
 use Rattle.text_bytes.specs.Numbers.{capped}
-use Rattle.text_bytes.specs.Texts.{trimmed, unindented}
+use Rattle.text_bytes.specs.Names.{hash}
+use Rattle.text_bytes.specs.Texts.{trimmed, unindented, up_to}
 use Rattle.file_messages.specs.declared.message.Message.{Message}
 use Rattle.file_messages.specs.declared.message.MessageKind.{MessageKind}
 use Rattle.file_messages.specs.declared.message.MessageKind.TheVariants.{PropertyWithoutMatch, NoEquals, EmptyKey}
-use Rattle.hwdb_core.specs.Lines.{before_comment}
 use Rattle.engine_formats.specs.declared.placing.TextPlace.{TextPlace}
 
 -- a place in a line: the columns that it begins at and ends before, counted from 1, and the text there
@@ -39,7 +39,7 @@ reported_text clean kind = if is_about_property kind then unindented clean else 
 -- where a message of a kind is in a line: at the text that it is about, which ends where the clean line does
 abbrev pub place_in : List ℕ → MessageKind → Place
 place_in source kind =
-    let clean = trimmed (before_comment source) in
+    let clean = trimmed (up_to hash source) in
     let word = reported_text clean kind in
     record { source = source; column = capped (length clean - length word + 1); end = capped (length clean + 1); word = word }
 

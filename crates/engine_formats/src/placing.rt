@@ -4,9 +4,8 @@ ghost use Rattle.text_bytes.specs.Lines.{numbered_lines};
 ghost use Rattle.engine_formats.specs.Placing.{is_about_property, line_numbered, place_in, placed, reported_text, shown_place};
 
 use file_messages::{Message, MessageKind};
-use hwdb_core::before_comment;
 use std::alloc::{AllocError, Global};
-use text_bytes::{Line, Lines, capped, trimmed, unindented};
+use text_bytes::{Line, Lines, capped, trimmed, unindented, up_to};
 
 /// Where a message about a database is in its line.
 ///
@@ -54,7 +53,7 @@ pub fn placed_message<'a>(lines: &[Line<'a>], message: &Message) -> TextPlace<'a
 fn place_in(source: &[u8], kind: MessageKind) -> TextPlace<'_>
     ensures { shown_place result ≡ place_in source.now kind }
 {
-    let clean = trimmed(before_comment(source));
+    let clean = trimmed(up_to(b'#', source));
     let word = reported_text(clean, kind);
     TextPlace {
         source,

@@ -5,7 +5,9 @@ use Rattle.std.proofs.lemmas.List.Splits.{slice_split_at, slice_split_none}
 use Rattle.std.proofs.lemmas.List.Elements.{All-push}
 use Rattle.text_bytes.specs.declared.SourceFile.{SourceFile}
 use Rattle.text_bytes.specs.Lines.{NumberedLine, lines, numbered_from}
-use Rattle.hwdb_core.specs.Lines.{clean_lines, cleaned, is_comment, lines_of}
+use Rattle.text_bytes.specs.Names.{hash}
+use Rattle.text_bytes.specs.Texts.{begins_with}
+use Rattle.hwdb_core.specs.Lines.{clean_lines, cleaned, lines_of}
 use Rattle.hwdb_core.specs.Paragraphs.{cut, has_lines, is_empty_line, paragraphs}
 use Rattle.hwdb_core.specs.Found.{Adds, FailsAt, Found, Held, IsKept, found_in, join, onto}
 use Rattle.hwdb_core.specs.Parts.{cut_found, file_found}
@@ -24,10 +26,10 @@ lines_found file ls = found_in (paragraph_found file) (paragraphs ls)
 abbrev pub Open : List NumberedLine → Type 0
 Open ls = All (λ l. is_empty_line l ≡ false) ls
 
-pub comment_passed : (l : NumberedLine) (ls : List NumberedLine) → is_comment l.text ≡ true → clean_lines (l ∷ ls) ≡ clean_lines ls
+pub comment_passed : (l : NumberedLine) (ls : List NumberedLine) → begins_with hash l.text ≡ true → clean_lines (l ∷ ls) ≡ clean_lines ls
 comment_passed l ls e = rw e refl
 
-pub line_cleaned : (l : NumberedLine) (ls : List NumberedLine) → is_comment l.text ≡ false → clean_lines (l ∷ ls) ≡ cleaned l ∷ clean_lines ls
+pub line_cleaned : (l : NumberedLine) (ls : List NumberedLine) → begins_with hash l.text ≡ false → clean_lines (l ∷ ls) ≡ cleaned l ∷ clean_lines ls
 line_cleaned l ls e = rw e refl
 
 pub found_lines_of : (file bytes : List ℕ) → found_in (cut_found file) (map cut (paragraphs (lines_of bytes))) ≡ lines_found file (lines_of bytes)
@@ -63,13 +65,13 @@ module _ (file : List ℕ) (all now : Held) (p : List NumberedLine) (l : Numbere
   here : onto now (lines_found file (p ++ clean_lines (l ∷ ls))) ≡ all
   here = ap (λ (xs : List NumberedLine). onto now (lines_found file (p ++ clean_lines xs))) (sym e) ∙ w.same
 
-  pub walks_comment : is_comment l.text ≡ true → Walks file all now p ls
+  pub walks_comment : begins_with hash l.text ≡ true → Walks file all now p ls
   walks_comment c = record {
     open_lines = w.open_lines;
     same = ap (λ (xs : List NumberedLine). onto now (lines_found file (p ++ xs))) (sym (comment_passed l ls c)) ∙ here;
   }
 
-  pub walks_line : (x : NumberedLine) → is_comment l.text ≡ false → x ≡ cleaned l → is_empty_line x ≡ false → (q : List NumberedLine) → q ≡ p ++ x ∷ [] → Walks file all now q ls
+  pub walks_line : (x : NumberedLine) → begins_with hash l.text ≡ false → x ≡ cleaned l → is_empty_line x ≡ false → (q : List NumberedLine) → q ≡ p ++ x ∷ [] → Walks file all now q ls
   walks_line x c f g q h = record {
     open_lines = subst Open (sym h) (All-push (λ y. is_empty_line y ≡ false) p x w.open_lines g);
     same =
@@ -79,13 +81,13 @@ module _ (file : List ℕ) (all now : Held) (p : List NumberedLine) (l : Numbere
         ∙ ap (λ (xs : List NumberedLine). onto now (lines_found file (p ++ xs))) (sym (line_cleaned l ls c)) ∙ here;
   }
 
-  at_end : (x : NumberedLine) → is_comment l.text ≡ false → x ≡ cleaned l → is_empty_line x ≡ true → onto now (join (paragraph_found file p) (lines_found file (clean_lines ls))) ≡ all
+  at_end : (x : NumberedLine) → begins_with hash l.text ≡ false → x ≡ cleaned l → is_empty_line x ≡ true → onto now (join (paragraph_found file p) (lines_found file (clean_lines ls))) ≡ all
   at_end x c f g =
       ap (onto now) (sym (paragraph_ended file p x (clean_lines ls) w.open_lines g))
       ∙ ap (λ (y : NumberedLine). onto now (lines_found file (p ++ y ∷ clean_lines ls))) f
       ∙ ap (λ (xs : List NumberedLine). onto now (lines_found file (p ++ xs))) (sym (line_cleaned l ls c)) ∙ here
 
-  pub walks_end : (x : NumberedLine) → is_comment l.text ≡ false → x ≡ cleaned l → is_empty_line x ≡ true → (next : Held) → next ≡ onto now (paragraph_found file p) → (q : List NumberedLine) → q ≡ [] → Walks file all next q ls
+  pub walks_end : (x : NumberedLine) → begins_with hash l.text ≡ false → x ≡ cleaned l → is_empty_line x ≡ true → (next : Held) → next ≡ onto now (paragraph_found file p) → (q : List NumberedLine) → q ≡ [] → Walks file all next q ls
   walks_end x c f g next h q i = record {
     open_lines = subst Open (sym i) (λ k d b. absurd (omega arith));
     same =
@@ -94,7 +96,7 @@ module _ (file : List ℕ) (all now : Held) (p : List NumberedLine) (l : Numbere
         ∙ onto_join now (paragraph_found file p) (lines_found file (clean_lines ls)) ∙ at_end x c f g;
   }
 
-  pub walks_failed : (x : NumberedLine) → is_comment l.text ≡ false → x ≡ cleaned l → is_empty_line x ≡ true → (start : Held) (part : Found) → all ≡ onto start part → (f : HwdbFault) → FailsAt now (paragraph_found file p) f → FailsAt start part f
+  pub walks_failed : (x : NumberedLine) → begins_with hash l.text ≡ false → x ≡ cleaned l → is_empty_line x ≡ true → (start : Held) (part : Found) → all ≡ onto start part → (f : HwdbFault) → FailsAt now (paragraph_found file p) f → FailsAt start part f
   walks_failed x c f g start part a TooMany h =
       λ k. h (kept_before (onto now (paragraph_found file p)) (lines_found file (clean_lines ls)) (subst IsKept (sym (onto_join now (paragraph_found file p) (lines_found file (clean_lines ls)) ∙ at_end x c f g ∙ a)) k))
   walks_failed x c f g start part a Memory h = tt

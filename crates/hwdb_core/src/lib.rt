@@ -17,4 +17,3 @@ mod ruling;
 pub use database::{Database, read_fitting, read_sources};
 pub use fault::HwdbFault;
 pub use hwdb_lookup::{Entry, Lookup, PlainDb, Sourced, rising, winners_are_the_answer};
-pub use lines::before_comment;

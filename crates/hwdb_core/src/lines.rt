@@ -1,18 +1,11 @@
 //! What a line of a database file is, and cleaning it.
 
 ghost use Rattle.std.specs.Prelude.{◌≡◌};
-ghost use Rattle.hwdb_core.specs.Lines.{is_comment, before_comment, cleaned};
+ghost use Rattle.hwdb_core.specs.Lines.{cleaned};
 ghost use Rattle.hwdb_core.specs.Paragraphs.{is_property};
 ghost use Rattle.hwdb_core.specs.Properties.{property_text};
 
-use text_bytes::{Line, begins_with, find, trimmed, unindented};
-
-/// Whether a line begins with `#`.
-pub(crate) fn is_comment(line: &Line<'_>) -> bool
-    ensures { result ≡ is_comment line.now.text }
-{
-    begins_with(b'#', line.text())
-}
+use text_bytes::{Line, begins_with, trimmed, unindented, up_to};
 
 /// Whether a line is a property: one that begins with a space.
 pub(crate) fn is_property(line: &Line<'_>) -> bool
@@ -25,7 +18,7 @@ pub(crate) fn is_property(line: &Line<'_>) -> bool
 pub(crate) fn cleaned<'a>(line: &Line<'a>) -> Line<'a>
     ensures { result ≡ cleaned line.now }
 {
-    line.with_text(trimmed(before_comment(line.text())))
+    line.with_text(trimmed(up_to(b'#', line.text())))
 }
 
 /// A property without its leading blanks.
@@ -33,14 +26,4 @@ pub(crate) fn property_text<'a>(line: &Line<'a>) -> &'a [u8]
     ensures { result.now ≡ property_text line.now }
 {
     unindented(line.text())
-}
-
-/// A text up to its first `#`.
-pub fn before_comment(text: &[u8]) -> &[u8]
-    ensures { result.now ≡ before_comment text.now }
-{
-    match find(b'#', text) {
-        None => text,
-        Some(at) => &text[..at],
-    }
 }

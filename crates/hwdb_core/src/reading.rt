@@ -14,11 +14,11 @@ ghost use Rattle.hwdb_core.specs.Parts.{bare_found, cut_found, early_found, file
 
 use crate::fault::HwdbFault;
 use crate::gathered::Gathered;
-use crate::lines::{cleaned, is_comment, property_text};
+use crate::lines::{cleaned, property_text};
 use crate::paragraph::{pair_of, parts_of};
 use file_messages::MessageKind;
 use std::alloc::Global;
-use text_bytes::{Line, Lines, SourceFile};
+use text_bytes::{Line, Lines, SourceFile, begins_with};
 use text_core::{GlobFault, PackedPattern};
 
 /// Reads a file.
@@ -32,7 +32,7 @@ pub(crate) fn read_file(
     let name = file.name.as_slice();
     let mut open = Vec::new(alloc);
     for line in Lines::new(file.bytes.as_slice()) {
-        if is_comment(&line) {
+        if begins_with(b'#', line.text()) {
             continue;
         }
         let line = cleaned(&line);

@@ -6,9 +6,10 @@ use Rattle.std.proofs.lemmas.List.Concat.{flat_map_single}
 use Rattle.std.proofs.lemmas.List.Elements.{All-append, All-cons, All-nil}
 use Rattle.std.proofs.lemmas.List.Kept.{AllPairs-cons}
 use Rattle.std.proofs.lemmas.Bool.{cases_lt}
-use Rattle.text_bytes.specs.Names.{equals, newline}
+use Rattle.text_bytes.specs.Names.{equals, hash, newline}
 use Rattle.text_bytes.specs.Lines.{NumberedLine, lines, numbered_from}
 use Rattle.text_bytes.specs.Numbers.{capped}
+use Rattle.text_bytes.specs.Texts.{begins_with}
 use Rattle.file_messages.specs.Messages.{message}
 use Rattle.file_messages.specs.declared.message.Message.{Message}
 use Rattle.file_messages.specs.declared.message.MessageKind.{MessageKind}
@@ -17,7 +18,7 @@ use Rattle.text_bytes.specs.declared.SourceFile.{SourceFile}
 use Rattle.text_core.specs.Spell.{spell}
 use Rattle.text_core.specs.declared.glob_fault.GlobFault.{GlobFault}
 use Rattle.text_core.specs.declared.item.Item.{Item}
-use Rattle.hwdb_core.specs.Lines.{clean_lines, cleaned, is_comment, lines_of}
+use Rattle.hwdb_core.specs.Lines.{clean_lines, cleaned, lines_of}
 use Rattle.hwdb_laws.specs.MessageLaws.{ComesBefore, code_number}
 use Rattle.hwdb_core.specs.Paragraphs.{Cut, cut, has_lines, is_empty_line, paragraphs}
 use Rattle.hwdb_core.specs.Properties.{Pair, pair_at, pair_of, property_text}
@@ -190,12 +191,12 @@ clean_rise n [] = omega arith
 clean_rise n (t ∷ ts) =
     let same : n + 1 + length ts ≡ n + length (t ∷ ts) = omega arith in
     let rest : LinesRise (n + 1) (clean_lines (numbered_from (n + 1) ts)) (n + length (t ∷ ts)) = subst (λ (k : ℕ). LinesRise (n + 1) (clean_lines (numbered_from (n + 1) ts)) k) same (clean_rise (n + 1) ts) in
-    by_test (is_comment t) rest where
+    by_test (begins_with hash t) rest where
       here : NumberedLine
       here = record { number = n; text = t }
 
       later : List NumberedLine
-      later = filter (λ l. not (is_comment l.text)) (numbered_from (n + 1) ts)
+      later = filter (λ l. not (begins_with hash l.text)) (numbered_from (n + 1) ts)
 
       by_test : (b : Bool) → LinesRise (n + 1) (map cleaned later) (n + length (t ∷ ts)) → LinesRise n (map cleaned (cond (not b) (here ∷ later) later)) (n + length (t ∷ ts))
       by_test true rest = lines_lower (n + 1) n (map cleaned later) (n + length (t ∷ ts)) (omega arith) rest

@@ -1,10 +1,10 @@
 -- D1 to D4: a match beside the modaliases that its prefix can have.
-use Rattle.std.specs.Prelude.{ℕ, Bool, true, false, not, ◌==◌, ◌&&◌, ◌||◌, nat_le, nat_eq, if◌then◌else◌, List, [], ◌∷◌, length, take_while, drop, map, find}
+use Rattle.std.specs.Prelude.{ℕ, Bool, true, false, not, ◌==◌, ◌&&◌, ◌||◌, nat_le, nat_eq, if◌then◌else◌, List, [], ◌∷◌, length, drop, map, find}
 use Rattle.std.specs.Prelude.{Option, Some, None}
 use Rattle.std.specs.List.{list_any, starts_with}
 use Rattle.text_bytes.specs.Names.{backslash, close_bracket, colon, open_bracket, question_mark, star}
 use Rattle.text_bytes.specs.Numbers.{is_digit}
-use Rattle.text_bytes.specs.Texts.{ends_in}
+use Rattle.text_bytes.specs.Texts.{ends_in, up_to}
 use Rattle.text_tables.specs.Texts.{Text, is_among}
 use Rattle.hwdb_lints.specs.declared.modaliases.TheConstants.{FIRST_WORDS, MODALIASES}
 use Rattle.hwdb_lints.specs.declared.lint.DatabaseLint.{DatabaseLint}
@@ -99,10 +99,6 @@ forms = map (λ m. (m.0.now, m.1.now, m.2)) MODALIASES
 abbrev pub form_among : List ModaliasForm → Text → Option ModaliasForm
 form_among known text = find (λ form. starts_with nat_eq text form.0) known
 
--- what comes before the first `:` of a match
-abbrev pub first_word : Text → Text
-first_word text = take_while (λ b. not (b == colon)) text
-
 -- whether a byte of a text means something other than itself
 abbrev pub has_sign : Text → Bool
 has_sign text = list_any (λ b. ((b == star || b == question_mark) || b == open_bracket) || b == backslash) text
@@ -113,7 +109,7 @@ first_words = map (λ word. word.now) FIRST_WORDS
 
 -- whether nothing is known to look up what a match begins with
 abbrev pub is_unknown : Text → Bool
-is_unknown text = not (has_sign (first_word text)) && not (is_among first_words (first_word text))
+is_unknown text = not (has_sign (up_to colon text)) && not (is_among first_words (up_to colon text))
 
 -- why no modalias of a form fits, by how a match meets it, whether a digit has the other case, and whether the end lacks
 -- what modaliases end in

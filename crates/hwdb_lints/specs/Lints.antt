@@ -1,10 +1,9 @@
 -- The lints of a database file.
 use Rattle.std.specs.Prelude.{ℕ, ◌-◌, Bool, not, if◌then◌else◌, List, [], ◌∷◌, ◌++◌, length, Option, Some, None}
 use Rattle.text_bytes.specs.Lines.{NumberedLine, numbered_lines}
-use Rattle.text_bytes.specs.Names.{equals, space}
-use Rattle.text_bytes.specs.Texts.{begins_with, is_empty, split_once, trimmed, unindented}
+use Rattle.text_bytes.specs.Names.{equals, hash, space}
+use Rattle.text_bytes.specs.Texts.{begins_with, is_empty, split_once, trimmed, unindented, up_to}
 use Rattle.text_tables.specs.Texts.{Text, is_among, with_text}
-use Rattle.hwdb_core.specs.Lines.{before_comment, is_comment}
 use Rattle.hwdb_lints.specs.Forms.{match_fault}
 use Rattle.hwdb_lints.specs.Names.{is_name}
 use Rattle.hwdb_lints.specs.Placed.{placed, reported, reported_if, suffix_reported}
@@ -71,7 +70,7 @@ clean_lints before l clean =
 
 -- the lints of a line
 abbrev pub line_lints : Before → NumberedLine → List PlacedLint
-line_lints before l = if is_comment l.text then [] else clean_lints before l (trimmed (before_comment l.text))
+line_lints before l = if begins_with hash l.text then [] else clean_lints before l (trimmed (up_to hash l.text))
 
 -- what comes before the line after a property
 abbrev pub after_pair : Before → Option (Text × Text) → Before
@@ -87,7 +86,7 @@ after_clean before clean =
 
 -- what comes before the line after this one
 abbrev pub after_line : Before → NumberedLine → Before
-after_line before l = if is_comment l.text then before else after_clean before (trimmed (before_comment l.text))
+after_line before l = if begins_with hash l.text then before else after_clean before (trimmed (up_to hash l.text))
 
 -- the lints of lines, by what comes before the first
 abbrev pub lints_from : Before → List NumberedLine → List PlacedLint

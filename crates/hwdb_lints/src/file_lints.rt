@@ -6,9 +6,8 @@ ghost use Rattle.text_bytes.specs.Texts.{unindented};
 use crate::before::Before;
 use crate::line_lints::{add_match_lints, add_property_lints};
 use crate::placed_lint::PlacedLint;
-use hwdb_core::before_comment;
 use std::alloc::{AllocError, Global};
-use text_bytes::{Line, Lines, begins_with, split_once, trimmed, unindented};
+use text_bytes::{Line, Lines, begins_with, split_once, trimmed, unindented, up_to};
 
 /// What is reported for a database file besides its faults, by line, and for one line by code.
 #[tactic(auto, unfolding(crate::specs::Lints::database_lints))]
@@ -41,7 +40,7 @@ fn pass_line<'a>(
         found,
         before,
         line,
-        trimmed(before_comment(line.text())),
+        trimmed(up_to(b'#', line.text())),
     )
 }
 

@@ -1,12 +1,12 @@
 //! D1 to D4: a match beside the modaliases that its prefix can have.
 ghost use Rattle.std.specs.Prelude.{◌≡◌, drop, length, map, option_map};
-ghost use Rattle.hwdb_lints.specs.Forms.{digit_step, ends_well, fault_in_form, fault_met, first_word, form_among, has_sign, has_swapped};
+ghost use Rattle.hwdb_lints.specs.Forms.{digit_step, ends_well, fault_in_form, fault_met, form_among, has_sign, has_swapped};
 ghost use Rattle.hwdb_lints.specs.Forms.{is_capital_digit, is_digit_place, is_hexadecimal, is_small_digit, is_swapped, is_unknown, is_written};
 ghost use Rattle.hwdb_lints.specs.Forms.{letter_step, match_fault, meeting_of, step_at};
 
 use crate::lint::DatabaseLint;
 use crate::modaliases::{FIRST_WORDS, MODALIASES, Modalias};
-use text_bytes::{ends_in, find, is_digit};
+use text_bytes::{ends_in, is_digit, up_to};
 use text_tables::is_among;
 
 /// What a byte of a match means for what follows.
@@ -180,16 +180,6 @@ fn form_among<'m>(forms: &'m [Modalias], text: &[u8]) -> Option<&'m Modalias>
     None
 }
 
-/// What comes before the first `:` of a match, all of it if it has none.
-fn first_word(text: &[u8]) -> &[u8]
-    ensures { result.now ≡ first_word text.now }
-{
-    match find(b':', text) {
-        None => text,
-        Some(at) => &text[..at],
-    }
-}
-
 /// Whether a byte of a text means something other than itself.
 fn has_sign(text: &[u8]) -> bool
     ensures { result ≡ has_sign text.now }
@@ -201,7 +191,7 @@ fn has_sign(text: &[u8]) -> bool
 fn is_unknown(text: &[u8]) -> bool
     ensures { result ≡ is_unknown text.now }
 {
-    let word = first_word(text);
+    let word = up_to(b':', text);
     !has_sign(word) && !is_among(&FIRST_WORDS, word)
 }
 

@@ -1,5 +1,5 @@
 -- Words for texts that several readers use.
-use Rattle.std.specs.Prelude.{ℕ, Bool, true, false, ◌==◌, List, [], ◌∷◌, length, take, drop, slice_index}
+use Rattle.std.specs.Prelude.{ℕ, Bool, true, false, not, ◌==◌, List, [], ◌∷◌, length, take, take_while, drop, slice_index}
 use Rattle.std.specs.Prelude.{position, Option, Some, None, option_map, ◌+◌, ◌-◌, nat_eq, if◌then◌else◌}
 use Rattle.std.specs.Cmp.Lexicographic.{pointwise}
 use Rattle.std.specs.List.{prefix_len, suffix_len}
@@ -50,6 +50,10 @@ trimmed text = take (length text - suffix_len is_whitespace text) text
 -- a text without its last byte
 abbrev pub without_last : List ℕ → List ℕ
 without_last text = take (length text - 1) text
+
+-- a text up to the first such byte, all of it if it has none
+abbrev pub up_to : ℕ → List ℕ → List ℕ
+up_to byte text = take_while (λ b. not (b == byte)) text
 
 -- what comes before the first such byte of a text, and what comes after it
 unfoldable pub split_once : ℕ → List ℕ → Option (List ℕ × List ℕ)

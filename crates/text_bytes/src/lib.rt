@@ -26,5 +26,5 @@ pub use search::find;
 pub use source_file::{FileKind, SourceFile};
 pub use texts::{
     begins_with, ends_in, following, is_blank, is_whitespace, split_once, trimmed, unindented,
-    without_last, word_of,
+    up_to, without_last, word_of,
 };

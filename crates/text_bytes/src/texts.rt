@@ -2,7 +2,7 @@
 ghost use Rattle.std.specs.Prelude.{◌≡◌, ◌≤◌, ◌<◌, ◌+◌, length, option_map, IfSome};
 ghost use Rattle.std.specs.List.{prefix_len, suffix_len};
 ghost use Rattle.text_bytes.specs.Names.{is_blank, is_whitespace};
-ghost use Rattle.text_bytes.specs.Texts.{begins_with, ends_in, following, split_once, trimmed, unindented, without_last, word_of};
+ghost use Rattle.text_bytes.specs.Texts.{begins_with, ends_in, following, split_once, trimmed, unindented, up_to, without_last, word_of};
 
 use crate::search::find;
 
@@ -90,6 +90,16 @@ fn trailing_whitespace(text: &[u8]) -> usize
         .rev()
         .take_while(|byte| is_whitespace(**byte))
         .count()
+}
+
+/// A text up to the first such byte, all of it if it has none.
+pub fn up_to(byte: u8, text: &[u8]) -> &[u8]
+    ensures { result.now ≡ up_to byte text.now }
+{
+    match find(byte, text) {
+        None => text,
+        Some(at) => &text[..at],
+    }
 }
 
 /// What comes before the first such byte of a text, and what comes after it.

@@ -98,7 +98,7 @@ fn push_paths_of(alloc: Global, rules: &[Rule], paths: &mut Vec<Bytes>) -> Resul
     ensures { OnOk result (paths.new.items ≡ paths.old.items ++ paths_of rules.now) }
 {
     for rule in rules {
-        push_paths_in(alloc, rule.acts(), paths)?;
+        push_paths_in(alloc, &rule.acts, paths)?;
     }
     Ok(())
 }

@@ -115,7 +115,7 @@ pub(crate) fn push_source(
     ensures { OnOk result (lines.new.items ≡ lines.old.items ++ source_part (option_map (λ r. r.now) rule.entry)) }
 {
     match rule {
-        Some(rule) => push_place(alloc, lines, rule.file(), rule.line()),
+        Some(rule) => push_place(alloc, lines, rule.file(), rule.line),
         None => lines.extend_from_slice(b"-: "),
     }
 }

@@ -62,7 +62,7 @@ fn push_passed_by(
 {
     let mut text = Vec::from_slice(alloc, b"passed over by GOTO of ")?;
     push_rule(alloc, &mut text, jumping)?;
-    push_line(alloc, lines, rule.file(), rule.line(), &text)
+    push_line(alloc, lines, rule.file(), rule.line, &text)
 }
 
 /// Adds the line on a rule that is skipped, if a rule jumps.
@@ -90,7 +90,7 @@ pub(crate) fn push_course(
     ensures { OnOk result (lines.new.items ≡ lines.old.items ++ rule_lines (rule.now, texts.now)) }
 {
     for text in texts {
-        push_line(alloc, lines, rule.file(), rule.line(), text.as_slice())?;
+        push_line(alloc, lines, rule.file(), rule.line, text.as_slice())?;
     }
     Ok(())
 }

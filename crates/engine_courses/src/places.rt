@@ -45,7 +45,7 @@ fn push_rules<'a>(places: &mut Vec<Place<'a>>, rules: &'a [Rule]) -> Result<(), 
     for rule in rules {
         places.push(Place {
             file: rule.file(),
-            line: rule.line(),
+            line: rule.line,
         })?;
     }
     Ok(())

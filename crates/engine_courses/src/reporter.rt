@@ -67,7 +67,7 @@ fn jumping_after(reached: bool, rule: &Rule) -> Option<&Rule>
 fn about_of<'a>(why: &[&str], rule: &'a Rule) -> Option<&'a Rule>
     ensures { option_map (λ r. r.now) result ≡ about_of (map (λ t. t.now) why.now) rule.now }
 {
-    if is_asked(why, rule.file(), rule.line()) {
+    if is_asked(why, rule.file(), rule.line) {
         Some(rule)
     } else {
         None
@@ -85,7 +85,7 @@ fn report_passed(
     ensures { OnOk result (lines.new.items ≡ lines.old.items
         ++ flat_map rule_lines (reported_if_asked (map (λ t. t.now) why.now) rule.now (passed_texts (option_map (λ r. r.now) jumping.entry)))) }
 {
-    if is_asked(why, rule.file(), rule.line()) {
+    if is_asked(why, rule.file(), rule.line) {
         push_passed(alloc, lines, jumping, rule)?;
     }
     Ok(())

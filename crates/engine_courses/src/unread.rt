@@ -11,7 +11,7 @@ use rule_types::Rule;
 fn is_at(rule: &Rule, file: &[u8], line: u32) -> bool
     ensures { result ≡ (same_text rule.now.file file.now && rule.now.line == line) }
 {
-    rule.file() == file && rule.line() == line
+    rule.file() == file && rule.line == line
 }
 
 /// Whether one of these rules is on a line of a file.

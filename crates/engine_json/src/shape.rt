@@ -158,7 +158,7 @@ pub(crate) fn write_source(
     match rule {
         Some(rule) => {
             write_told(alloc, writer, "file", rule.file())?;
-            write_number(writer, "line", rule.line())?;
+            write_number(writer, "line", rule.line)?;
             writer.end_object()
         }
         None => writer.end_object(),

@@ -100,7 +100,7 @@ fn push_line_on(
     ensures { OnOk result (text.new.items ≡ text.old.items ++ line_on rule.now reached stops.now) }
 {
     text.extend_from_slice(b"unused ")?;
-    push_place(alloc, text, rule.file(), rule.line())?;
+    push_place(alloc, text, rule.file(), rule.line)?;
     push_unmet(alloc, text, rule, reached, stops)?;
     text.push(b'\n')?;
     Ok(())

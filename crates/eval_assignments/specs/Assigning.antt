@@ -13,7 +13,7 @@ use Rattle.rule_types.specs.declared.rule_option.RuleOption.{RuleOption}
 use Rattle.rule_types.specs.declared.rule_option.RuleOption.TheVariants as option
 use Rattle.rule_types.specs.declared.keys.Key.TheVariants as key
 use Rattle.rule_types.specs.Rules.{Rule}
-use Rattle.eval_state.specs.Scenes.{noted_key}
+use Rattle.eval_state.specs.Scenes.{noted_key, with_state}
 use Rattle.eval_state.specs.declared.note_kind.NoteKind.TheVariants.{NoValue}
 use Rattle.eval_state.specs.declared.scene.Scene.{Scene}
 use Rattle.eval_assignments.specs.Attributes.{attribute_set}
@@ -55,29 +55,37 @@ group_set r t s = if is_empty t then noted_key r NoValue key.Group None s else r
 abbrev pub or_written : Text → Text → Text
 or_written written t = if is_empty t then written else t
 
--- what each key makes of a text once it is rendered: by the manual a module has one label, for udev each that was set; by
--- the manual an empty name means that there is none, for udev it is a name
+-- what each key makes of a text once it is rendered, by the manual: a module has one label, and an empty name means that there
+-- is none
+abbrev pub assigned_by_manual : Target → Given → Text → Scene → Scene
+assigned_by_manual target.Owner g t s = record s { owner = unless_empty t }
+assigned_by_manual target.Group g t s = record s { group = unless_empty t }
+assigned_by_manual target.Mode g t s = record s { mode = unless_empty t }
+assigned_by_manual target.Tag g t s = with_state (λ now. record now { tags = changed g.operator (one_tag t) now.tags }) s
+assigned_by_manual (target.Seclabel name) g t s = record s { labels = with_value (labels_before g.operator s.labels) name t }
+assigned_by_manual (target.Env name) g t s = property_changed g.rule g.operator name t s
+assigned_by_manual target.Name g t s = with_state (λ now. record now { name = unless_empty (name_text Manual g.escape t) }) s
+assigned_by_manual target.Symlink g t s = with_state (λ now. record now { links = changed g.operator (link_names (link_text g.escape t)) now.links }) s
+assigned_by_manual (target.Attr name) g t s = record s { attrs = with_value s.attrs name t }
+assigned_by_manual (target.Sysctl name) g t s = record s { sysctls = with_value s.sysctls name t }
+
+-- what each key makes of a text once it is rendered, for udev: each label that was set stays, and an empty name is a name
+abbrev pub assigned_by_udev : Target → Given → Text → Scene → Scene
+assigned_by_udev target.Owner g t s = owner_set g.rule t s
+assigned_by_udev target.Group g t s = group_set g.rule t s
+assigned_by_udev target.Mode g t s = mode_set g.rule t s
+assigned_by_udev target.Tag g t s = tag_changed g.rule g.operator t s
+assigned_by_udev (target.Seclabel name) g t s = record s { labels = labels_before g.operator s.labels ++ (name, or_written g.written t) ∷ [] }
+assigned_by_udev (target.Env name) g t s = udev_property_changed g.rule g.escape g.operator name g.written t s
+assigned_by_udev target.Name g t s = with_state (λ now. record now { name = Some (name_text Udev g.escape t) }) s
+assigned_by_udev target.Symlink g t s = links_changed g.rule g.operator (link_text g.escape t) s
+assigned_by_udev (target.Attr name) g t s = attribute_set g.rule name t s
+assigned_by_udev (target.Sysctl name) g t s = parameter_set g.rule name t s
+
+-- what each key makes of a text once it is rendered
 abbrev pub assigned : Profile → Target → Given → Text → Scene → Scene
-assigned Manual target.Owner g t s = record s { owner = unless_empty t }
-assigned Manual target.Group g t s = record s { group = unless_empty t }
-assigned Manual target.Mode g t s = record s { mode = unless_empty t }
-assigned Manual target.Tag g t s = record s { state = record s.state { tags = changed g.operator (one_tag t) s.state.tags } }
-assigned Manual (target.Seclabel name) g t s = record s { labels = with_value (labels_before g.operator s.labels) name t }
-assigned Manual (target.Env name) g t s = property_changed g.rule g.operator name t s
-assigned Manual target.Name g t s = record s { state = record s.state { name = unless_empty (name_text Manual g.escape t) } }
-assigned Manual target.Symlink g t s = record s { state = record s.state { links = changed g.operator (link_names (link_text g.escape t)) s.state.links } }
-assigned Manual (target.Attr name) g t s = record s { attrs = with_value s.attrs name t }
-assigned Manual (target.Sysctl name) g t s = record s { sysctls = with_value s.sysctls name t }
-assigned Udev target.Owner g t s = owner_set g.rule t s
-assigned Udev target.Group g t s = group_set g.rule t s
-assigned Udev target.Mode g t s = mode_set g.rule t s
-assigned Udev target.Tag g t s = tag_changed g.rule g.operator t s
-assigned Udev (target.Seclabel name) g t s = record s { labels = labels_before g.operator s.labels ++ (name, or_written g.written t) ∷ [] }
-assigned Udev (target.Env name) g t s = udev_property_changed g.rule g.escape g.operator name g.written t s
-assigned Udev target.Name g t s = record s { state = record s.state { name = Some (name_text Udev g.escape t) } }
-assigned Udev target.Symlink g t s = links_changed g.rule g.operator (link_text g.escape t) s
-assigned Udev (target.Attr name) g t s = attribute_set g.rule name t s
-assigned Udev (target.Sysctl name) g t s = parameter_set g.rule name t s
+assigned Manual = assigned_by_manual
+assigned Udev = assigned_by_udev
 
 -- what each option changes; `string_escape` is for its whole rule and changes nothing by itself
 abbrev pub with_option : RuleOption → Scene → Scene

@@ -1,7 +1,7 @@
 //! What each key makes of the text that is assigned to it.
 ghost use Rattle.std.specs.Prelude.{◌≡◌, [], ◌∷◌, ◌++◌, OnOk, OnErr, IfOk};
 ghost use Rattle.text_tables.specs.Pairs.{with_value};
-ghost use Rattle.eval_assignments.specs.Assigning.{assigned, group_set, labels_before, link_text, or_written, owner_set, unless_empty};
+ghost use Rattle.eval_assignments.specs.Assigning.{assigned, assigned_by_manual, assigned_by_udev, group_set, labels_before, link_text, or_written, owner_set, unless_empty};
 
 use crate::attributes::set_attribute;
 use crate::escapes::{Escape, with_underscores};
@@ -85,7 +85,7 @@ fn assign_manual(
     text: Bytes,
     scene: &mut Scene<'_>,
 ) -> Result<(), AllocError>
-    ensures scene { OnOk result (scene.new ≡ assigned Profile.Manual given.now.target given.now text scene.old) }
+    ensures scene { OnOk result (scene.new ≡ assigned_by_manual given.now.target given.now text scene.old) }
     ensures refused { OnErr result (scene.new.state.event ≡ scene.old.state.event) }
 {
     let operator = given.operator;
@@ -168,7 +168,7 @@ fn assign_udev(
     text: Bytes,
     scene: &mut Scene<'_>,
 ) -> Result<(), AllocError>
-    ensures scene { OnOk result (scene.new ≡ assigned Profile.Udev given.now.target given.now text scene.old) }
+    ensures scene { OnOk result (scene.new ≡ assigned_by_udev given.now.target given.now text scene.old) }
     ensures refused { OnErr result (scene.new.state.event ≡ scene.old.state.event) }
 {
     let (rule, operator, escape, written) = (

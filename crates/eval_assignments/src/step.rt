@@ -277,8 +277,8 @@ fn set_each<'a>(alloc: Global, rule: &'a Rule, scene: &mut Scene<'a>) -> Result<
     ensures scene { OnOk result (scene.new ≡ fold (set_step rule.now) scene.old rule.now.sets) }
     ensures refused { OnErr result (scene.new.state.event ≡ scene.old.state.event) }
 {
-    let escape = escape_of(rule.sets());
-    for assignment in rule.sets() {
+    let escape = escape_of(&rule.sets);
+    for assignment in &rule.sets {
         set_open(alloc, rule, escape, assignment, scene)?;
     }
     Ok(())
@@ -322,7 +322,7 @@ pub fn set_one<'a>(
     ensures scene { OnOk result (scene.new ≡ set_step rule.now scene.old assignment.now) }
     ensures refused { OnErr result (scene.new ≡ blank scene.old.state.event) }
 {
-    let made = set_open(alloc, rule, escape_of(rule.sets()), assignment, scene);
+    let made = set_open(alloc, rule, escape_of(&rule.sets), assignment, scene);
     if made.is_err() {
         scene.clear(alloc);
     }

@@ -80,21 +80,21 @@ fn with_action(part: &PlainMatch, is_guard: bool) -> Option<ByAction>
 pub(crate) fn has_no_more(rule: &Rule) -> bool
     ensures { result ≡ has_no_more rule.now }
 {
-    rule.acts().is_empty() && rule.results().is_empty() && rule.sets().is_empty()
+    rule.acts.is_empty() && rule.results.is_empty() && rule.sets.is_empty()
 }
 
 /// Whether a rule has nothing but its first match of the event, after which it has these.
 fn is_guard(rule: &Rule, others: &[PlainMatch]) -> bool
     ensures { result ≡ is_guard rule.now others.now }
 {
-    others.is_empty() && rule.up().is_empty() && has_no_more(rule)
+    others.is_empty() && rule.up.is_empty() && has_no_more(rule)
 }
 
 /// What is known of a rule, if its first match is one of the action.
 pub(crate) fn by_action(rule: &Rule) -> Option<ByAction>
     ensures { result ≡ by_action rule.now }
 {
-    match rule.plain().split_first() {
+    match rule.plain.split_first() {
         Some((part, others)) => with_action(part, is_guard(rule, others)),
         None => None,
     }

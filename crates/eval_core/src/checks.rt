@@ -115,12 +115,12 @@ fn check_with(names: &[Bytes], part: &PlainMatch) -> Option<Check>
 pub(crate) fn check_of(names: &[Bytes], rule: &Rule) -> Option<Check>
     ensures { result ≡ check_of names.now rule.now }
 {
-    check_with(names, rule.plain().first()?)
+    check_with(names, rule.plain.first()?)
 }
 
 /// The name of the attribute that a rule looks at first, if it does.
 fn first_attribute(rule: &Rule) -> Option<&[u8]> {
-    match &rule.plain().first()?.key {
+    match &rule.plain.first()?.key {
         PlainKey::Attr(name) => Some(name.as_slice()),
         _ => None,
     }

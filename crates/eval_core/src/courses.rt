@@ -142,11 +142,11 @@ fn search_in(plain: &[PlainMatch], parts: &[UpMatch], part: &UpMatch) -> Course
 fn course_after(names: &[Bytes], rule: &Rule) -> Course
     ensures { result ≡ course_after names.now rule.now }
 {
-    match rule.up().first() {
-        Some(part) => search_in(rule.plain(), rule.up(), part),
+    match rule.up.first() {
+        Some(part) => search_in(&rule.plain, &rule.up, part),
         None => {
             if has_no_more(rule) {
-                guard_in(names, rule.plain())
+                guard_in(names, &rule.plain)
             } else {
                 Course::Open
             }

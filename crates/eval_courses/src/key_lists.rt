@@ -111,9 +111,9 @@ pub fn rule_keys(alloc: Global, rule: &Rule) -> Result<Vec<Bytes>, AllocError>
     ensures { IfOk result (λ keys. keys.items ≡ keys_of rule.now) }
 {
     let mut keys = Vec::new(alloc);
-    push_plain_keys(alloc, &mut keys, rule.plain())?;
-    keys.push(search_key(alloc, rule.up())?)?;
-    push_act_keys(alloc, &mut keys, rule.acts())?;
-    push_result_keys(alloc, &mut keys, rule.results())?;
+    push_plain_keys(alloc, &mut keys, &rule.plain)?;
+    keys.push(search_key(alloc, &rule.up)?)?;
+    push_act_keys(alloc, &mut keys, &rule.acts)?;
+    push_result_keys(alloc, &mut keys, &rule.results)?;
     Ok(keys)
 }

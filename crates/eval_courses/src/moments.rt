@@ -27,7 +27,7 @@ pub fn report_moment(
         Moment::Meeting(_, part) => texts.push(plain_report(alloc, part, &scene.state)?)?,
         Moment::Searching(rule) => {
             let idle = is_idle(rule, scene.state.event.event());
-            report_search(alloc, idle, rule.up(), &scene.state, texts)?
+            report_search(alloc, idle, &rule.up, &scene.state, texts)?
         }
         Moment::Comparing(_, part) => texts.push(result_report(alloc, part, &scene.state)?)?,
         Moment::Stopped(_) => texts.push(Bytes::copy_of(alloc, b"stops there")?)?,

@@ -74,7 +74,7 @@ fn skipped_changes(alloc: Global, rule: &Rule, event: &Event<'_>) -> Result<Vec<
     ensures { IfOk result (λ texts. texts.items ≡ map (λ a. skipped_change event.now a.change) rule.now.sets) }
 {
     let mut texts = Vec::new(alloc);
-    for assignment in rule.sets() {
+    for assignment in &rule.sets {
         texts.push(skipped_change(alloc, &assignment.change, event)?)?;
     }
     Ok(texts)
@@ -96,11 +96,11 @@ fn skipped_by(alloc: Global, reported: &[Bytes]) -> Result<Bytes, AllocError>
 fn is_bare(rule: &Rule) -> bool
     ensures { result ≡ is_bare rule.now }
 {
-    rule.plain().is_empty()
-        && rule.up().is_empty()
-        && rule.acts().is_empty()
-        && rule.results().is_empty()
-        && rule.sets().is_empty()
+    rule.plain.is_empty()
+        && rule.up.is_empty()
+        && rule.acts.is_empty()
+        && rule.results.is_empty()
+        && rule.sets.is_empty()
 }
 
 /// How a rule that is skipped ended, if all its keys would let it go on.

@@ -234,7 +234,7 @@ fn set_all_and_report<'a>(
     ensures event { scene.new.state.event ≡ scene.old.state.event }
 {
     let mut reported = Vec::new(alloc);
-    for assignment in rule.sets() {
+    for assignment in &rule.sets {
         let text = set_and_report(alloc, rule, since, assignment, scene)?;
         reported.push(text)?;
     }

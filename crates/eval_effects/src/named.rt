@@ -59,5 +59,5 @@ pub fn push_rule(alloc: Global, text: &mut Vec<u8>, rule: &Rule) -> Result<(), A
 {
     text.extend_from_slice(&escape(alloc, rule.file())?)?;
     text.push(b':')?;
-    text.extend_from_slice(Buffer::new().format(rule.line()).as_bytes())
+    text.extend_from_slice(Buffer::new().format(rule.line).as_bytes())
 }

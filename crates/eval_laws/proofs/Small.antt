@@ -39,8 +39,8 @@ use Rattle.rule_core.specs.Effects.{lacks_effect, unknown_option}
 use Rattle.rule_core.specs.Ends.{abandoned}
 use Rattle.rule_core.specs.Drafts.{Draft, assignment_in, draft, draft_of, draft_with, idle_spot, items_as, most_bytes, part_of_item, parts_of, with_part, written_part}
 use Rattle.rule_core.specs.Spots.{whole_spot}
-use Rattle.rule_core.specs.Written.{WrittenPart, parts_in, tokens_in}
-use Rattle.rule_core.specs.declared.spot.Spot.{Spot}
+use Rattle.rule_types.specs.Tokens.{WrittenPart, parts_in, tokens_in}
+use Rattle.rule_types.specs.declared.spot.Spot.{Spot}
 use Rattle.rule_core.specs.Turns.{assignment_turns, assignments_by_turn, of_turn, turn_of_assignment}
 use Rattle.rule_types.specs.Rules.{Rule}
 use Rattle.rule_core.specs.Rules.{Reading, file_rules, rules_unless, line_rules, names_of, reading_of, readings_of, set_of_as}

@@ -85,7 +85,7 @@ fn sets_count(sets: &[Assignment], event: &Event<'_>) -> bool
 fn something_counts(rule: &Rule, event: &Event<'_>) -> bool
     ensures { result ≡ something_counts rule.now event.now }
 {
-    rule.goto().is_some() || acts_count(rule.acts()) || sets_count(rule.sets(), event)
+    rule.goto().is_some() || acts_count(&rule.acts) || sets_count(&rule.sets, event)
 }
 
 /// Whether a rule is skipped before its matches are looked at: for udev (systemd 257) one that neither jumps, nor
@@ -134,7 +134,7 @@ fn note_each<'a>(alloc: Global, rule: &'a Rule, scene: &mut Scene<'a>) -> Result
     ensures scene { OnOk result (scene.new ≡ fold (note_step rule.now) scene.old rule.now.sets) }
     ensures refused { OnErr result (scene.new.state.event ≡ scene.old.state.event) }
 {
-    for assignment in rule.sets() {
+    for assignment in &rule.sets {
         note_step(alloc, rule, assignment, scene)?;
     }
     Ok(())

@@ -103,7 +103,7 @@ fn search_watched<'a, W: Watch<'a>>(
     ensures event { scene.new.state.event ≡ scene.old.state.event }
 {
     watch.tell(alloc, Moment::Searching(rule), scene)?;
-    Ok(search(rule.up(), scene))
+    Ok(search(&rule.up, scene))
 }
 
 /// Acts part by part, up to the first that stops the rule.
@@ -181,16 +181,16 @@ fn try_rule<'a, K: Knowledge, W: Watch<'a>>(
         ≡ keys_watched W.telling (K.known knowledge.now) rule.now (scene.old, watch.old)) }
     ensures event { scene.new.state.event ≡ scene.old.state.event }
 {
-    if !match_event(alloc, rule, rule.plain(), watch, scene)? {
+    if !match_event(alloc, rule, &rule.plain, watch, scene)? {
         return Ok(false);
     }
     if !search_watched(alloc, rule, watch, scene)? {
         return Ok(false);
     }
-    if !act_all(alloc, rule, rule.acts(), knowledge, watch, scene)? {
+    if !act_all(alloc, rule, &rule.acts, knowledge, watch, scene)? {
         return Ok(false);
     }
-    match_results(alloc, rule, rule.results(), watch, scene)
+    match_results(alloc, rule, &rule.results, watch, scene)
 }
 
 /// Goes through a rule's five steps, up to the first that stops it, and returns whether its end was reached.

@@ -238,6 +238,6 @@ pub(crate) fn found_after(
     let mut found = Vec::new(alloc);
     push_links(alloc, &mut found, scene, was.links)?;
     push_tags(alloc, &mut found, scene, was.tags)?;
-    push_all_named(alloc, &mut found, scene, rule.sets())?;
+    push_all_named(alloc, &mut found, scene, &rule.sets)?;
     Ok(found)
 }

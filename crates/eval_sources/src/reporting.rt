@@ -21,14 +21,14 @@ use std::marker::Model;
 fn can_change(reached: bool, rule: &Rule) -> bool
     ensures { result ≡ can_change reached rule.now }
 {
-    !rule.acts().is_empty() || (reached && !rule.sets().is_empty())
+    !rule.acts.is_empty() || (reached && !rule.sets.is_empty())
 }
 
 /// Whether all items are looked at after a rule: it acts, or it can have changed more than is told apart.
 fn looks_at_all(rule: &Rule, was: Sizes, scene: &Scene<'_>) -> bool
     ensures { result ≡ looks_at_all rule.now was scene.now }
 {
-    !rule.acts().is_empty() || changes_more(rule, was, scene)
+    !rule.acts.is_empty() || changes_more(rule, was, scene)
 }
 
 /// Keeps what is there after a rule, by what was there before it: all items, or only those that it can have changed.

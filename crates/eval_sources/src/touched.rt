@@ -86,5 +86,5 @@ pub(crate) fn changes_more(rule: &Rule, was: Sizes, scene: &Scene<'_>) -> bool
     ensures { result ≡ names.changes_more rule.now was scene.now }
 {
     let profile = scene.state.event.event().profile();
-    any_is_wide(profile, rule.sets()) || Sizes::of(scene).gone != was.gone
+    any_is_wide(profile, &rule.sets) || Sizes::of(scene).gone != was.gone
 }

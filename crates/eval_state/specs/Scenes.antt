@@ -12,6 +12,7 @@ use Rattle.rule_types.specs.declared.keys.Key.{Key}
 use Rattle.eval_state.specs.Notes.{note_about, word_of_key}
 use Rattle.eval_state.specs.declared.note_kind.NoteKind.{NoteKind}
 use Rattle.eval_state.specs.declared.scene.Scene.{Scene}
+use Rattle.eval_state.specs.declared.state.State.{State}
 
 -- a scene in which nothing is left but the event itself
 abbrev pub blank : EventValue → Scene
@@ -45,6 +46,10 @@ noted r kind text s = record s { notes = s.notes ++ note_about r kind text ∷ [
 -- one more note, reported with a key
 abbrev pub noted_key : Rule → NoteKind → Key → Option Text → Scene → Scene
 noted_key r kind key attribute s = noted r kind (word_of_key key attribute) s
+
+-- a scene in which the state is changed
+abbrev pub with_state : (State → State) → Scene → Scene
+with_state change s = record s { state = change s.state }
 
 -- a scene with other properties
 abbrev pub with_env : List Pair → Scene → Scene

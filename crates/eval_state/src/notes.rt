@@ -49,7 +49,7 @@ impl Note {
     {
         Ok(Note {
             file: Bytes::copy_of(alloc, rule.file())?,
-            line: rule.line(),
+            line: rule.line,
             kind,
             word: Bytes::copy_of(alloc, kept_word(kind, text))?,
         })

@@ -48,7 +48,7 @@ fn assignment_asks(assignment: &Assignment) -> bool
 fn rule_asks(rule: &Rule) -> bool
     ensures { result ≡ rule_asks rule.now }
 {
-    rule.sets()
+    rule.sets
         .iter()
         .any(|assignment| assignment_asks(assignment))
 }

@@ -52,7 +52,7 @@ pub(crate) fn set_each<'a>(
     ensures scene { OnOk result (scene.new ≡ fold (set_step rule.now) scene.old rule.now.sets) }
     ensures refused { OnErr result (scene.new.state.event ≡ scene.old.state.event) }
 {
-    for assignment in rule.sets() {
+    for assignment in &rule.sets {
         note_and_set(alloc, rule, assignment, notes, scene)?;
     }
     Ok(())

@@ -134,11 +134,11 @@ fn is_name(name: Option<&[u8]>, wanted: &[u8]) -> bool {
 
 /// Whether a rule has one part in each of its lists.
 fn has_one_of_each(rule: &Rule) -> bool {
-    rule.plain().len() == 1
-        && rule.up().len() == 1
-        && rule.acts().len() == 1
-        && rule.results().len() == 1
-        && rule.sets().len() == 1
+    rule.plain.len() == 1
+        && rule.up.len() == 1
+        && rule.acts.len() == 1
+        && rule.results.len() == 1
+        && rule.sets.len() == 1
 }
 
 /// What is read of one file of rules.
@@ -159,7 +159,7 @@ fn rule_is_lent(alloc: Global) -> Result<bool, Fail> {
     Ok(match read.rules().rules() {
         [rule, _] => {
             rule.file() == b"p.rules".as_slice()
-                && rule.line() == 2
+                && rule.line == 2
                 && is_name(rule.label(), b"l")
                 && is_name(rule.goto(), b"g")
                 && has_one_of_each(rule)
@@ -174,7 +174,7 @@ fn rules_are_given(alloc: Global) -> Result<bool, Fail> {
     let count = read.messages().len();
     let rules = read.into_rules().into_rules();
     Ok(match rules.as_slice() {
-        [rule] => count == 1 && rule.goto().is_none() && rule.sets().len() == 1,
+        [rule] => count == 1 && rule.goto().is_none() && rule.sets.len() == 1,
         _ => false,
     })
 }

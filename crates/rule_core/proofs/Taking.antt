@@ -13,9 +13,9 @@ use Rattle.text_bytes.specs.declared.profile.Profile.TheVariants.{Manual, Udev}
 use Rattle.text_bytes.specs.Texts.{first, last}
 use Rattle.rule_core.specs.Drafts.{act_in, again_in, assignment_in, given_again, given_again_after, goto_at, label_again, label_among, label_at, name_place, plain_in, result_in, up_in}
 use Rattle.rule_core.specs.Taking.{Kinds, RuleNames, again, first_given, kinds_of, label_given, label_said, names_given, with_kind, with_name}
-use Rattle.rule_core.specs.Written.{WrittenPart, parts_in}
+use Rattle.rule_types.specs.Tokens.{WrittenPart, parts_in}
 use Rattle.rule_core.specs.declared.names.NamePlace.{NamePlace}
-use Rattle.rule_core.specs.declared.spot.Spot.{Spot}
+use Rattle.rule_types.specs.declared.spot.Spot.{Spot}
 
 -- an element is one of these, after those before it, or none
 one_after : {X Y : Type 0} (is : X → Option Y) (xs : List X) (x : X) (y : Y) → is x ≡ Some y → filter_map is (xs ++ x ∷ []) ≡ filter_map is xs ++ y ∷ []

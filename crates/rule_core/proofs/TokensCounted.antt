@@ -14,9 +14,9 @@ use Rattle.rule_core.specs.Counts.{draft_tokens, is_counted, line_tokens, token_
 use Rattle.rule_core.specs.Drafts.{Draft, act_in, acts_of, assignment_in, plain_in, result_in, sets_of, up_in}
 use Rattle.rule_core.specs.Rules.{Reading, file_messages, file_rules, line_rules, name_of, rule_at, set_of_as}
 use Rattle.rule_core.specs.Turns.{assignment_turns, turn_of_act, turn_of_assignment}
-use Rattle.rule_core.specs.Written.{WrittenPart, parts_in}
+use Rattle.rule_types.specs.Tokens.{WrittenPart, parts_in}
 use Rattle.rule_core.specs.declared.names.NamePlace.{NamePlace}
-use Rattle.rule_core.specs.declared.spot.Spot.{Spot}
+use Rattle.rule_types.specs.declared.spot.Spot.{Spot}
 use Rattle.rule_core.proofs.Bounds.{act_below, assignment_below}
 use Rattle.rule_core.proofs.Sorting.{all_in_turn}
 

@@ -7,7 +7,7 @@ use Rattle.rule_types.specs.declared.part.Part.{Part}
 use Rattle.rule_types.specs.declared.part.Part.TheVariants as part
 use Rattle.rule_core.specs.Drafts.{Draft}
 use Rattle.rule_core.specs.Rules.{Reading}
-use Rattle.rule_core.specs.declared.spot.Spot.{Spot}
+use Rattle.rule_types.specs.declared.spot.Spot.{Spot}
 
 -- whether a part is counted by itself: it is no name for jumps
 abbrev pub is_counted : Part → Bool

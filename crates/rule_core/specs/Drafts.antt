@@ -18,12 +18,13 @@ use Rattle.rule_types.specs.declared.part.UpMatch.{UpMatch}
 use Rattle.rule_parts.specs.declared.finding.Finding.{Finding}
 use Rattle.rule_types.specs.declared.part.Part.TheVariants as part
 use Rattle.rule_core.specs.Effects.{lacks_effect, unknown_option}
-use Rattle.rule_core.specs.Spots.{part_spot, spot, token_spot, value_start, whole_spot}
+use Rattle.rule_types.specs.Spots.{spot, value_start}
+use Rattle.rule_core.specs.Spots.{part_spot, token_spot, whole_spot}
 use Rattle.rule_core.specs.Style.{style_findings}
 use Rattle.rule_core.specs.Turns.{acts_by_turn, assignments_by_turn}
-use Rattle.rule_core.specs.Written.{WrittenPart, tokens_in}
+use Rattle.rule_types.specs.Tokens.{WrittenPart, tokens_in}
 use Rattle.rule_core.specs.declared.names.NamePlace.{NamePlace}
-use Rattle.rule_core.specs.declared.spot.Spot.{Spot}
+use Rattle.rule_types.specs.declared.spot.Spot.{Spot}
 
 -- a rule as its line alone gives it: its names for jumps, its tokens with the parts that they are, in written order,
 -- and the findings about it

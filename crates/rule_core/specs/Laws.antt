@@ -10,8 +10,8 @@ use Rattle.rule_parts.specs.Parts.{is_read_as_assign}
 use Rattle.rule_types.specs.declared.part.Part.{Part}
 use Rattle.rule_types.specs.declared.part.Part.TheVariants as part
 use Rattle.rule_core.specs.Drafts.{act_in, acts_of, assignment_in, given_again_after, goto_in, label_in, plain_in, result_in, sets_of, up_in}
-use Rattle.rule_core.specs.Spots.{value_spot}
-use Rattle.rule_core.specs.Written.{WrittenPart}
+use Rattle.rule_types.specs.Spots.{value_spot}
+use Rattle.rule_types.specs.Tokens.{WrittenPart}
 use Rattle.rule_core.specs.Style.{between}
 use Rattle.rule_core.specs.Turns.{of_turn, turn_of_act, turn_of_assignment}
 

@@ -5,7 +5,6 @@ pub mod Lines
 pub mod Effects
 pub mod Letters
 pub mod Spots
-pub mod Written
 pub mod Style
 pub mod Turns
 pub mod Drafts

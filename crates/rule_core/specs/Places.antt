@@ -5,7 +5,7 @@ use Rattle.file_messages.specs.declared.message.MessageKind.{MessageKind}
 use Rattle.rule_tokens.specs.Grammar.{AllAre, Placed, is_gap_byte}
 use Rattle.file_messages.specs.declared.message.MessageKind.TheVariants.{CommaExpected}
 use Rattle.rule_core.specs.Style.{between, gap_findings, leading_findings, style_after, style_findings, whole_gap}
-use Rattle.rule_core.specs.declared.spot.Spot.{Spot}
+use Rattle.rule_types.specs.declared.spot.Spot.{Spot}
 
 -- the gap before a token, from the place where the token before it ends, if there is one
 abbrev pub findings_before : Profile → List ℕ → Option ℕ → Placed → List (Spot MessageKind)

@@ -10,10 +10,10 @@ use Rattle.rule_core.specs.Ends.{abandoned}
 use Rattle.rule_core.specs.Lines.{NumberedLine, joined_lines}
 use Rattle.rule_types.specs.Rules.{Rule}
 use Rattle.rule_core.specs.Drafts.{Draft, acts_of, draft_of, plain_in, result_in, sets_of, up_in}
-use Rattle.rule_core.specs.Spots.{spot}
-use Rattle.rule_core.specs.Written.{parts_in}
+use Rattle.rule_types.specs.Spots.{spot}
+use Rattle.rule_types.specs.Tokens.{parts_in}
 use Rattle.rule_core.specs.declared.names.NamePlace.{NamePlace}
-use Rattle.rule_core.specs.declared.spot.Spot.{Spot}
+use Rattle.rule_types.specs.declared.spot.Spot.{Spot}
 use Rattle.text_bytes.specs.Texts.{word_of}
 use Rattle.rule_jumps.specs.Jumps.{Names, landings}
 use Rattle.rule_jumps.specs.declared.jumps.Landing.{Landing}

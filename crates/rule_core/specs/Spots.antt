@@ -1,22 +1,15 @@
--- What is reported about parts of a joined line, with the places of these parts in it.
-use Rattle.std.specs.Prelude.{ℕ, ◌+◌, ◌-◌, Bool, true, false, if◌then◌else◌, List, [], length, drop}
+-- What is found about parts of a joined line, with the places of these parts in it.
+use Rattle.std.specs.Prelude.{ℕ, ◌+◌, Bool, true, false, if◌then◌else◌, List, [], length, drop}
 use Rattle.file_messages.specs.declared.message.MessageKind.{MessageKind}
 use Rattle.file_messages.specs.declared.message.MessageKind.TheVariants.{BadSyntax, BadPrefix, UnknownKey, OperatorNotAllowed, WrongAttribute, ReservedProperty}
 use Rattle.rule_tokens.specs.Grammar.{Placed, attribute_bytes}
 use Rattle.rule_tokens.specs.Prefixes.{letters_at}
 use Rattle.rule_tokens.specs.declared.kinds.TokenFaultKind.{TokenFaultKind}
 use Rattle.rule_tokens.specs.declared.kinds.TokenFaultKind.TheVariants.{Syntax, Prefix}
+use Rattle.rule_types.specs.Spots.{spot, spot_at_key, value_spot}
 use Rattle.rule_parts.specs.Parts.{meaning_of}
 use Rattle.rule_core.specs.Letters.{start_before_quote}
-use Rattle.rule_core.specs.declared.spot.Spot.{Spot}
-
--- what is reported about a part of a line, with a text: the place of its first byte, and how many bytes it has
-abbrev pub spot : {K : Type 0} → K → List ℕ → ℕ → ℕ → Spot K
-spot kind word start size = record { kind = kind; word = word; start = start; size = size }
-
--- the key of a token, reported with a text
-abbrev pub spot_at_key : {K : Type 0} → K → List ℕ → Placed → Spot K
-spot_at_key kind word t = spot kind word t.span.start (length t.parts.head.key)
+use Rattle.rule_types.specs.declared.spot.Spot.{Spot}
 
 -- the key of a token, reported with itself
 abbrev pub key_spot : MessageKind → Placed → Spot MessageKind
@@ -26,14 +19,6 @@ key_spot kind t = spot_at_key kind t.parts.head.key t
 abbrev pub attribute_spot : MessageKind → Placed → Spot MessageKind
 attribute_spot kind t =
     spot kind (attribute_bytes t.parts.head.attribute) (t.span.start + length t.parts.head.key + 1) (length (attribute_bytes t.parts.head.attribute))
-
--- the place of the first byte of a token's value: the quote after it is the token's last byte
-abbrev pub value_start : Placed → ℕ
-value_start t = t.span.end - 1 - length t.parts.value
-
--- the value of a token between its quotes, reported with a text
-abbrev pub value_spot : {K : Type 0} → K → List ℕ → Placed → Spot K
-value_spot kind word t = spot kind word (value_start t) (length t.parts.value)
 
 -- whether what is wrong with a token is its key, or that it has the attribute or the operator that it has
 abbrev pub is_of_key : MessageKind → Bool

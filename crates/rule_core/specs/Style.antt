@@ -10,8 +10,9 @@ use Rattle.text_bytes.specs.declared.profile.Profile.TheVariants.{Manual, Udev}
 use Rattle.rule_tokens.specs.Grammar.{Placed}
 use Rattle.rule_tokens.specs.Values.{ends_in}
 use Rattle.rule_parts.specs.Parts.{is_read_as_assign}
-use Rattle.rule_core.specs.Spots.{key_spot, spot}
-use Rattle.rule_core.specs.declared.spot.Spot.{Spot}
+use Rattle.rule_types.specs.Spots.{spot}
+use Rattle.rule_core.specs.Spots.{key_spot}
+use Rattle.rule_types.specs.declared.spot.Spot.{Spot}
 
 -- how many commas a gap has
 abbrev pub commas : List ℕ → ℕ

@@ -15,9 +15,9 @@ use Rattle.rule_types.specs.declared.part.UpMatch.{UpMatch}
 use Rattle.rule_types.specs.declared.part.Part.TheVariants as part
 use Rattle.rule_core.specs.Drafts.{act_in, acts_of, assignment_in, given_again_after, given_twice, goto_at, label_among}
 use Rattle.rule_core.specs.Drafts.{label_at, lost_name, name_place, plain_in, result_in, sets_of, up_in}
-use Rattle.rule_core.specs.Written.{WrittenPart}
+use Rattle.rule_types.specs.Tokens.{WrittenPart}
 use Rattle.rule_core.specs.declared.names.NamePlace.{NamePlace}
-use Rattle.rule_core.specs.declared.spot.Spot.{Spot}
+use Rattle.rule_types.specs.declared.spot.Spot.{Spot}
 
 -- the names of a rule, and the findings about those that don't count
 pub record RuleNames : Type 0 where

@@ -1,9 +1,8 @@
 //! What one line says about its rule.
 
 use crate::names::NamePlace;
-use crate::spot::Spot;
-use crate::written::WrittenPart;
 use file_messages::MessageKind;
+use rule_types::{Spot, WrittenPart};
 use std::marker::Model;
 
 /// A rule as its line alone gives it.

@@ -10,12 +10,12 @@ use crate::line_ends::MAX_UDEV_BYTES;
 use crate::line_fault::LineFault;
 use crate::names::RuleNames;
 use crate::places::line_tokens;
-use crate::spot::{Spot, part_spot, token_spot, whole_spot};
+use crate::spot::{part_spot, token_spot, whole_spot};
 use crate::style::add_style;
-use crate::written::WrittenPart;
 use file_messages::MessageKind;
 use rule_parts::{PartFault, read_part};
 use rule_tokens::{Token, TokenFault};
+use rule_types::{Spot, WrittenPart};
 use std::alloc::{AllocError, Global};
 use text_bytes::Profile;
 

@@ -3,12 +3,11 @@ ghost use Rattle.std.specs.Prelude.{◌≡◌, Bool, not, option_map, IfOk};
 ghost use Rattle.std.specs.List.{list_any};
 ghost use Rattle.rule_types.specs.Names.{key_of};
 ghost use Rattle.rule_core.specs.Effects.{acts_compared, has_effect, is_unknown_option, lacks_effect, unknown_option};
-ghost use Rattle.rule_core.specs.Written.{tokens_in};
+ghost use Rattle.rule_types.specs.Tokens.{tokens_in};
 
-use crate::written::WrittenPart;
 use rule_parts::is_known_option;
 use rule_tokens::{Token, unquote};
-use rule_types::{Key, key_of};
+use rule_types::{Key, WrittenPart, key_of};
 use std::alloc::{AllocError, Global};
 use text_bytes::Profile;
 

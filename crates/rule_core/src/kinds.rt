@@ -1,11 +1,10 @@
 //! The parts of a rule by what they are for.
 ghost use Rattle.std.specs.Prelude.{◌≡◌, [], IfOk, OnOk};
 ghost use Rattle.rule_core.specs.Taking.{kinds_of, sorted_kinds, with_kind};
-ghost use Rattle.rule_core.specs.Written.{parts_in};
+ghost use Rattle.rule_types.specs.Tokens.{parts_in};
 
 use crate::turns::{sort_acts, sort_assignments};
-use crate::written::WrittenPart;
-use rule_types::{Act, Assignment, Comparison, Part, PlainMatch, UpMatch};
+use rule_types::{Act, Assignment, Comparison, Part, PlainMatch, UpMatch, WrittenPart};
 use std::alloc::{AllocError, Global};
 use std::marker::Model;
 use text_bytes::Profile;

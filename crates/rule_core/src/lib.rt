@@ -32,7 +32,6 @@ mod style;
 mod sums;
 mod text;
 mod turns;
-mod written;
 
 pub use checking::rule_messages;
 pub use counts::{MAX_TOKENS, token_count};
@@ -50,10 +49,9 @@ pub use rule_templates::{Piece, Template, TemplateFault};
 pub use rule_tokens::{Operator, Quote, Span, Token, TokenFault, TokenFaultKind, Tokens, unquote};
 pub use rule_types::{
     Act, ActKind, AssignOperator, Assignment, Change, Comparison, Import, ImportType, Key,
-    MatchOperator, PlainKey, PlainMatch, Rule, RuleOption, RuleSet, RunType, Target, UpKey,
-    UpMatch,
+    MatchOperator, PlainKey, PlainMatch, Rule, RuleOption, RuleSet, RunType, Spot, Target, UpKey,
+    UpMatch, WrittenPart, spot_at_key, value_spot,
 };
-pub use spot::{Spot, attribute_spot, key_spot, spot_at_key, value_spot};
+pub use spot::{attribute_spot, key_spot};
 pub use style::{commas, has_blank_before_comma};
 pub use sums::sum_of;
-pub use written::WrittenPart;

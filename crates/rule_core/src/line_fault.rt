@@ -1,7 +1,7 @@
 //! Why a joined line is not a rule.
 
-use crate::spot::Spot;
 use file_messages::MessageKind;
+use rule_types::Spot;
 use std::alloc::{AllocError, AllocFailed};
 
 /// Why a joined line is not a rule.

@@ -5,8 +5,8 @@ ghost use Rattle.text_bytes.specs.Texts.{word_of};
 ghost use Rattle.rule_core.specs.Rules.{message, message_at, name_spot, open_messages};
 
 use crate::names::NamePlace;
-use crate::spot::Spot;
 use file_messages::{Message, MessageKind};
+use rule_types::Spot;
 use std::alloc::{AllocError, Global};
 use text_bytes::{Bytes, word_of};
 

@@ -7,11 +7,9 @@ ghost use Rattle.text_bytes.specs.declared.profile.Profile.TheVariants.{Manual};
 ghost use Rattle.rule_core.specs.Drafts.{given_twice, lost_name, name_place};
 ghost use Rattle.rule_core.specs.Taking.{again, first_given, label_given, label_said, names_given, with_name};
 
-use crate::spot::Spot;
-use crate::written::WrittenPart;
 use file_messages::MessageKind;
 use rule_tokens::Token;
-use rule_types::Part;
+use rule_types::{Part, Spot, WrittenPart};
 use std::alloc::{AllocError, Global};
 use std::marker::Model;
 use text_bytes::{Bytes, Profile};

@@ -5,7 +5,7 @@ ghost use Rattle.rule_types.specs.Rules.{tokens_in};
 ghost use Rattle.rule_core.specs.Rules.{file_messages, file_rules, findings_of, line_messages, line_rules, message_at, messages_unless};
 ghost use Rattle.rule_core.specs.Rules.{name_of, rule_at, rules_unless, set_of, set_of_as};
 ghost use Rattle.rule_core.specs.Taking.{rule_with, sorted_kinds};
-ghost use Rattle.rule_core.specs.Written.{parts_in};
+ghost use Rattle.rule_types.specs.Tokens.{parts_in};
 ghost use Rattle.rule_core.specs.declared.fault.RulesFault.TheVariants.{TooMany};
 
 use crate::draft::Draft;
@@ -18,10 +18,9 @@ use crate::messages::{Place, report, report_abandoned, report_all, report_if, re
 use crate::names::NamePlace;
 use crate::read_set::ReadRules;
 use crate::readings::{LandedReading, Reading, read_lines};
-use crate::written::WrittenPart;
 use file_messages::{Message, MessageKind};
 use rule_jumps::Landing;
-use rule_types::{Rule, RuleSet};
+use rule_types::{Rule, RuleSet, WrittenPart};
 use std::alloc::{AllocError, Global};
 use text_bytes::{Bytes, Profile, SourceFile};
 

@@ -1,40 +1,16 @@
-//! What is reported about parts of a joined line.
+//! What is found about parts of a joined line.
 ghost use Rattle.std.specs.Prelude.{◌≡◌, IfOk, length, drop};
 ghost use Rattle.rule_tokens.specs.Grammar.{attribute_bytes};
-ghost use Rattle.rule_core.specs.Spots.{attribute_spot, key_spot, part_spot, spot_at_key, token_spot, value_spot, whole_spot};
+ghost use Rattle.rule_core.specs.Spots.{attribute_spot, key_spot, part_spot, token_spot, whole_spot};
 
 use crate::letters::letters_start;
 use crate::places::following;
 use crate::sums::sum_of;
 use file_messages::MessageKind;
 use rule_tokens::{Token, TokenFault, TokenFaultKind, letters_before_quote, unquote};
+use rule_types::{Spot, spot_at_key, value_spot};
 use std::alloc::{AllocError, Global};
 use text_bytes::Bytes;
-
-/// What is reported about a part of a joined line: a finding, or a lint.
-#[derive(Drop)]
-pub struct Spot<K> {
-    /// What is reported.
-    pub kind: K,
-    /// The whole text that it is about.
-    pub word: Bytes,
-    /// The place of the part's first byte, in bytes from the line's start.
-    pub start: usize,
-    /// How many bytes the part has.
-    pub size: usize,
-}
-
-/// A token's key, reported with this text.
-pub fn spot_at_key<K>(kind: K, word: Bytes, token: &Token<'_>) -> Spot<K>
-    ensures { result ≡ spot_at_key kind word token.now }
-{
-    Spot {
-        kind,
-        word,
-        start: token.span().start,
-        size: token.key().len(),
-    }
-}
 
 /// A finding about a token's key, reported with the key.
 pub fn key_spot(
@@ -74,19 +50,6 @@ fn attribute_bytes<'a>(token: &Token<'a>) -> &'a [u8]
     match token.attribute() {
         None => &[],
         Some(attribute) => attribute,
-    }
-}
-
-/// A token's value between its quotes, reported with this text.
-pub fn value_spot<K>(kind: K, word: Bytes, token: &Token<'_>) -> Spot<K>
-    ensures { result ≡ value_spot kind word token.now }
-{
-    let size = token.value().len();
-    Spot {
-        kind,
-        word,
-        start: token.span().end.saturating_sub(1).saturating_sub(size),
-        size,
     }
 }
 

@@ -5,14 +5,14 @@ ghost use Rattle.std.specs.Prelude.{◌≡◌, ◌++◌, OnOk};
 ghost use Rattle.rule_core.specs.Places.{findings_at_end, findings_before};
 ghost use Rattle.rule_core.specs.Style.{comma_findings, commas, gap_findings, has_blank_before_comma, leading_findings};
 ghost use Rattle.rule_core.specs.Style.{operator_findings, read_as_assign_kind, style_findings, whole_gap};
-ghost use Rattle.rule_core.specs.Written.{tokens_in};
+ghost use Rattle.rule_types.specs.Tokens.{tokens_in};
 
 use crate::places::{between, following};
-use crate::spot::{Spot, key_spot};
-use crate::written::WrittenPart;
+use crate::spot::key_spot;
 use file_messages::MessageKind;
 use rule_parts::is_read_as_assign;
 use rule_tokens::Token;
+use rule_types::{Spot, WrittenPart};
 use std::alloc::{AllocError, Global};
 use text_bytes::{Bytes, Profile, ends_in, is_blank};
 

@@ -21,8 +21,8 @@ use Rattle.rule_file_lints.specs.FileRules.{FileRule, file_rules, rules_unless}
 use Rattle.rule_file_lints.specs.Imported.{any_property, assigned_in, below_spots, families, given_by, given_names, has_family, has_property, imported_by, imported_in, imported_names, is_given, is_of, perhaps_in, wanted_in}
 use Rattle.rule_file_lints.specs.Matches.{is_match, may_end_at}
 use Rattle.rule_file_lints.specs.Reached.{is_labelled, jumps_above, jumps_to, may_go_on, never_reached}
-use Rattle.rule_core.specs.Written.{WrittenPart}
-use Rattle.rule_core.specs.declared.spot.Spot.{Spot}
+use Rattle.rule_types.specs.Tokens.{WrittenPart}
+use Rattle.rule_types.specs.declared.spot.Spot.{Spot}
 
 -- tests
 or_by : (a b c : Bool) → (a ≡ true → c ≡ true) → (b ≡ true → c ≡ true) → (a || b) ≡ true → c ≡ true

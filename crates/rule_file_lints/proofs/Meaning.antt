@@ -9,8 +9,8 @@ use Rattle.rule_lints.specs.declared.lint.Lint.{Lint}
 use Rattle.rule_file_lints.specs.Compared.{assigned_value, meant_spots, meant_to_compare}
 use Rattle.rule_file_lints.specs.Matches.{is_match}
 use Rattle.rule_file_lints.specs.Steps.{before_matches, left_after}
-use Rattle.rule_core.specs.Written.{WrittenPart}
-use Rattle.rule_core.specs.declared.spot.Spot.{Spot}
+use Rattle.rule_types.specs.Tokens.{WrittenPart}
+use Rattle.rule_types.specs.declared.spot.Spot.{Spot}
 
 -- how many matches tokens have
 abbrev pub matches_in : List WrittenPart → ℕ

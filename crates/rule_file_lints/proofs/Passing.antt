@@ -21,8 +21,8 @@ use Rattle.rule_file_lints.specs.Matches.{is_match}
 use Rattle.rule_file_lints.specs.Reached.{jumps_above, never_reached}
 use Rattle.rule_lints.specs.RuleLints.{lints_of_rule}
 use Rattle.rule_file_lints.specs.Steps.{nothing_above, with_rule}
-use Rattle.rule_core.specs.Written.{WrittenPart}
-use Rattle.rule_core.specs.declared.spot.Spot.{Spot}
+use Rattle.rule_types.specs.Tokens.{WrittenPart}
+use Rattle.rule_types.specs.declared.spot.Spot.{Spot}
 use Rattle.rule_lints.specs.declared.lint.Lint.{Lint}
 use Rattle.rule_places.specs.Placed.{placed}
 use Rattle.rule_places.specs.declared.kept.KeptLine.{KeptLine}

@@ -1,9 +1,9 @@
 -- Properties that a rule compares after it imports them in the same rule: matches of the event are made before imports.
 use Rattle.std.specs.Prelude.{Bool, false, ◌&&◌, ◌||◌, if◌then◌else◌, List, [], ◌∷◌, ◌++◌, codes, Option, Some, None}
 use Rattle.text_tables.specs.Texts.{Text, is_among, same_text}
-use Rattle.rule_core.specs.Spots.{spot_at_key}
-use Rattle.rule_core.specs.Written.{WrittenPart}
-use Rattle.rule_core.specs.declared.spot.Spot.{Spot}
+use Rattle.rule_types.specs.Spots.{spot_at_key}
+use Rattle.rule_types.specs.Tokens.{WrittenPart}
+use Rattle.rule_types.specs.declared.spot.Spot.{Spot}
 use Rattle.rule_lints.specs.declared.lint.Lint.{Lint}
 use Rattle.rule_lints.specs.declared.lint.Lint.TheVariants.{ImportedBelow}
 use Rattle.rule_value_lints.specs.Texts.{begins_with_one}

@@ -20,9 +20,9 @@ use Rattle.rule_types.specs.declared.roles.Target.{Target}
 use Rattle.rule_types.specs.declared.roles.Target.TheVariants as target
 use Rattle.rule_file_lints.specs.FileRules.{FileRule}
 use Rattle.rule_file_lints.specs.Matches.{by_equal, is_match}
-use Rattle.rule_core.specs.Written.{WrittenPart}
-use Rattle.rule_core.specs.Spots.{spot_at_key}
-use Rattle.rule_core.specs.declared.spot.Spot.{Spot}
+use Rattle.rule_types.specs.Tokens.{WrittenPart}
+use Rattle.rule_types.specs.Spots.{spot_at_key}
+use Rattle.rule_types.specs.declared.spot.Spot.{Spot}
 
 -- a property or an attribute with a value: its key, its name, and the value
 pub record Valued : Type 0 where

@@ -11,9 +11,9 @@ use Rattle.rule_file_lints.specs.FileRules.{FileRule}
 use Rattle.rule_file_lints.specs.Imported.{given_names, has_property, imported_below, is_given, imported_names}
 use Rattle.rule_file_lints.specs.Matches.{is_match, may_end_at}
 use Rattle.rule_file_lints.specs.Reached.{is_labelled, jumps_above, never_reached}
-use Rattle.rule_core.specs.Written.{WrittenPart}
+use Rattle.rule_types.specs.Tokens.{WrittenPart}
 use Rattle.rule_places.specs.declared.placed_finding.PlacedFinding.{PlacedFinding}
-use Rattle.rule_core.specs.declared.spot.Spot.{Spot}
+use Rattle.rule_types.specs.declared.spot.Spot.{Spot}
 
 -- if a match is reported in a rule of a file, below others, the nearest first, its property is imported by this rule,
 -- further down or by a later file, and neither given nor perhaps given by one of the others

@@ -22,7 +22,7 @@ use Rattle.rule_file_lints.specs.Beside.{imported_beside}
 use Rattle.rule_file_lints.specs.Guarded.{are_guarded, have_program, no_result, unguarded}
 use Rattle.rule_file_lints.specs.Late.{are_late, have_tag, late_tag}
 use Rattle.rule_places.specs.declared.placed_finding.PlacedFinding.{PlacedFinding}
-use Rattle.rule_core.specs.declared.spot.Spot.{Spot}
+use Rattle.rule_types.specs.declared.spot.Spot.{Spot}
 
 -- what the lints of each rule of a file need to know about all of it: what its rules and later files import, what its
 -- rules compare, whether some are about tags, and whether the tag `uaccess` comes too late

@@ -7,7 +7,7 @@ use Rattle.rule_core.specs.Drafts.{Draft}
 use Rattle.rule_core.specs.Ends.{abandoned}
 use Rattle.rule_core.specs.Lines.{joined_lines}
 use Rattle.rule_core.specs.Rules.{Reading, landed, reading_of}
-use Rattle.rule_core.specs.declared.spot.Spot.{Spot}
+use Rattle.rule_types.specs.declared.spot.Spot.{Spot}
 
 -- a rule of a file: the number with which it is reported, how many bytes of joined lines come before it, what its line
 -- says, and what becomes of its jump and of its label

@@ -23,9 +23,9 @@ use Rattle.rule_types.specs.declared.roles.Target.TheVariants as target
 use Rattle.rule_lints.specs.Commands.{first_word}
 use Rattle.rule_file_lints.specs.FileRules.{FileRule}
 use Rattle.rule_file_lints.specs.Matches.{by_equal}
-use Rattle.rule_core.specs.Written.{WrittenPart}
-use Rattle.rule_core.specs.Spots.{spot_at_key}
-use Rattle.rule_core.specs.declared.spot.Spot.{Spot}
+use Rattle.rule_types.specs.Tokens.{WrittenPart}
+use Rattle.rule_types.specs.Spots.{spot_at_key}
+use Rattle.rule_types.specs.declared.spot.Spot.{Spot}
 
 -- builtins, each with a family of properties that it imports: a family is written as what its names begin with, and
 -- then a `*`

@@ -7,9 +7,9 @@ use Rattle.rule_lints.specs.declared.lint.Lint.TheVariants.{NeverReached}
 use Rattle.rule_core.specs.Rules.{name_of}
 use Rattle.rule_file_lints.specs.FileRules.{FileRule}
 use Rattle.rule_file_lints.specs.Matches.{may_end_at}
-use Rattle.rule_core.specs.Written.{WrittenPart}
-use Rattle.rule_core.specs.Spots.{spot_at_key}
-use Rattle.rule_core.specs.declared.spot.Spot.{Spot}
+use Rattle.rule_types.specs.Tokens.{WrittenPart}
+use Rattle.rule_types.specs.Spots.{spot_at_key}
+use Rattle.rule_types.specs.declared.spot.Spot.{Spot}
 
 -- whether a rule may lead to the one after it though it has a jump: there is no later label, or the rule may end before it jumps
 abbrev pub may_go_on : FileRule → Bool

@@ -10,8 +10,8 @@ use Rattle.rule_file_lints.specs.Imported.{given_by}
 use Rattle.rule_file_lints.specs.Late.{has_tag}
 use Rattle.rule_file_lints.specs.Matches.{is_match}
 use Rattle.rule_file_lints.specs.Reached.{jumps_to}
-use Rattle.rule_core.specs.Written.{WrittenPart}
-use Rattle.rule_core.specs.declared.spot.Spot.{Spot}
+use Rattle.rule_types.specs.Tokens.{WrittenPart}
+use Rattle.rule_types.specs.declared.spot.Spot.{Spot}
 
 -- no rules above
 abbrev pub nothing_above : RulesAbove

@@ -20,9 +20,9 @@ use Rattle.rule_core.specs.Drafts.{Draft, acts_of, draft, draft_of, draft_with, 
 use Rattle.rule_core.specs.Lines.{NumberedLine, joined_lines}
 use Rattle.rule_core.specs.Rules.{Reading, file_messages, file_rules, findings_of, line_findings, line_messages, line_rules, message_at, name_of, name_spot, names_of, open_messages, reading_of, rule_at}
 use Rattle.rule_core.specs.Spots.{whole_spot}
-use Rattle.rule_core.specs.Written.{WrittenPart, parts_in, tokens_in}
+use Rattle.rule_types.specs.Tokens.{WrittenPart, parts_in, tokens_in}
 use Rattle.rule_core.specs.declared.names.NamePlace.{NamePlace}
-use Rattle.rule_core.specs.declared.spot.Spot.{Spot}
+use Rattle.rule_types.specs.declared.spot.Spot.{Spot}
 use Rattle.rule_format.specs.Faults.{is_badly_spaced, is_faultless, is_sound, is_to_mend, parts_read}
 use Rattle.rule_format.specs.Laws.{Correspond, IsAsItWas, but_style, said, with_bytes}
 use Rattle.rule_format.specs.Mended.{mended}

@@ -15,8 +15,8 @@ use Rattle.rule_tokens.specs.declared.kinds.Quote.TheVariants as quote
 use Rattle.rule_jumps.specs.declared.jumps.Landing.{Landing}
 use Rattle.rule_core.specs.Lines.{joined_lines}
 use Rattle.rule_core.specs.Drafts.{Draft}
-use Rattle.rule_core.specs.Written.{WrittenPart, tokens_in}
-use Rattle.rule_core.specs.declared.spot.Spot.{Spot}
+use Rattle.rule_types.specs.Tokens.{WrittenPart, tokens_in}
+use Rattle.rule_types.specs.declared.spot.Spot.{Spot}
 use Rattle.file_messages.specs.declared.message.MessageKind.{MessageKind}
 use Rattle.rule_format.specs.Gaps.{is_well_spaced}
 use Rattle.rule_format.specs.Alike.{is_idle, is_mended, is_mended_line, same_attribute, same_bool, same_if_idle, same_landing, same_operator, same_part, same_quote, same_text, same_token, says_same, stands_for}

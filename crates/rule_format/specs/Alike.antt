@@ -11,7 +11,7 @@ use Rattle.rule_tokens.specs.declared.kinds.Quote.{Quote}
 use Rattle.rule_tokens.specs.declared.kinds.Quote.TheVariants as quote
 use Rattle.rule_jumps.specs.declared.jumps.Landing.{Landing}
 use Rattle.rule_core.specs.Lines.{joined_lines}
-use Rattle.rule_core.specs.Written.{WrittenPart}
+use Rattle.rule_types.specs.Tokens.{WrittenPart}
 use Rattle.rule_format.specs.Faults.{is_sound, is_to_mend, parts_read}
 use Rattle.rule_format.specs.Proposed.{Landed, landed_in}
 use Rattle.rule_format.specs.WholeLines.{is_comment, whole_lines, written}

@@ -12,8 +12,8 @@ use Rattle.rule_tokens.specs.Grammar.{Parts, Placed, answers}
 use Rattle.rule_tokens.specs.Lines.{items_of}
 use Rattle.rule_core.specs.Drafts.{Draft}
 use Rattle.rule_core.specs.Style.{style_findings}
-use Rattle.rule_core.specs.Written.{WrittenPart, tokens_in}
-use Rattle.rule_core.specs.declared.spot.Spot.{Spot}
+use Rattle.rule_types.specs.Tokens.{WrittenPart, tokens_in}
+use Rattle.rule_types.specs.declared.spot.Spot.{Spot}
 use Rattle.rule_format.specs.Alike.{is_idle}
 use Rattle.rule_format.specs.Faults.{is_sound, is_to_mend, parts_read}
 use Rattle.rule_format.specs.Gaps.{is_well_spaced}

@@ -4,7 +4,7 @@ use Rattle.text_bytes.specs.declared.profile.Profile.TheVariants.{Manual}
 use Rattle.rule_jumps.specs.declared.jumps.Landing.{Landing}
 use Rattle.rule_core.specs.Lines.{joined_lines}
 use Rattle.rule_core.specs.Rules.{Reading, landed, reading_of}
-use Rattle.rule_core.specs.Written.{tokens_in}
+use Rattle.rule_types.specs.Tokens.{tokens_in}
 use Rattle.rule_format.specs.Faults.{is_to_mend, parts_read}
 use Rattle.rule_format.specs.Rewritten.{rewritten_from}
 use Rattle.rule_format.specs.Stretches.{stretches}

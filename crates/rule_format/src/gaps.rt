@@ -1,6 +1,6 @@
 //! Gaps between the tokens of a line that are written as they should be.
 ghost use Rattle.std.specs.Prelude.{◌≡◌};
-ghost use Rattle.rule_core.specs.Written.{tokens_in};
+ghost use Rattle.rule_types.specs.Tokens.{tokens_in};
 ghost use Rattle.rule_format.specs.Gaps.{is_good_after, is_good_gap, is_well_spaced};
 
 use rule_core::{WrittenPart, between, commas, following, has_blank_before_comma};

@@ -1,6 +1,6 @@
 //! What stays of a line whose commas and blanks are mended.
 ghost use Rattle.std.specs.Prelude.{◌≡◌, IfOk};
-ghost use Rattle.rule_core.specs.Written.{tokens_in};
+ghost use Rattle.rule_types.specs.Tokens.{tokens_in};
 ghost use Rattle.rule_format.specs.Stretches.{stretch_before, stretches, stretches_from};
 
 use crate::gaps::is_good_gap;

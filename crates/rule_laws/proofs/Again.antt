@@ -8,10 +8,10 @@ use Rattle.rule_types.specs.declared.part.Part.TheVariants as part
 use Rattle.text_bytes.specs.declared.profile.Profile.TheVariants.{Manual}
 use Rattle.rule_core.specs.Drafts.{again_in, given_again, given_again_after, given_twice, goto_at, label_at, name_place, part_again}
 use Rattle.rule_core.specs.Laws.{GivesAgain, IsGivenAmong, IsReportedWhereAgain}
-use Rattle.rule_core.specs.Spots.{value_spot}
-use Rattle.rule_core.specs.Written.{WrittenPart}
+use Rattle.rule_types.specs.Spots.{value_spot}
+use Rattle.rule_types.specs.Tokens.{WrittenPart}
 use Rattle.rule_core.specs.declared.names.NamePlace.{NamePlace}
-use Rattle.rule_core.specs.declared.spot.Spot.{Spot}
+use Rattle.rule_types.specs.declared.spot.Spot.{Spot}
 use Rattle.rule_core.proofs.Taking.{none_said, said_after}
 
 abbrev token_of : Placed → Part → WrittenPart

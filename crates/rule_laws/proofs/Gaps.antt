@@ -9,8 +9,9 @@ use Rattle.file_messages.specs.declared.message.MessageKind.{MessageKind}
 use Rattle.rule_tokens.specs.Grammar.{AllAre, Placed, is_gap_byte}
 use Rattle.rule_tokens.specs.Values.{ends_in}
 use Rattle.rule_parts.specs.Parts.{is_read_as_assign}
-use Rattle.rule_core.specs.Spots.{key_spot, spot}
-use Rattle.rule_core.specs.declared.spot.Spot.{Spot}
+use Rattle.rule_types.specs.Spots.{spot}
+use Rattle.rule_core.specs.Spots.{key_spot}
+use Rattle.rule_types.specs.declared.spot.Spot.{Spot}
 use Rattle.text_bytes.specs.declared.profile.Profile.TheVariants.{Manual}
 use Rattle.rule_core.specs.Laws.{IsPlain, IsPlainAfter, IsPlainGap}
 use Rattle.rule_core.specs.Places.{AreGaps, AreGapsAfter}

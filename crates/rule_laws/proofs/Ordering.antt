@@ -14,10 +14,11 @@ use Rattle.rule_core.specs.Lines.{NumberedLine, joined_lines}
 use Rattle.rule_parts.specs.Parts.{is_read_as_assign}
 use Rattle.rule_types.specs.declared.part.Part.{Part}
 use Rattle.rule_types.specs.declared.part.Part.TheVariants as part
-use Rattle.rule_core.specs.Spots.{key_spot, spot, whole_spot}
-use Rattle.rule_core.specs.Written.{WrittenPart}
+use Rattle.rule_types.specs.Spots.{spot}
+use Rattle.rule_core.specs.Spots.{key_spot, whole_spot}
+use Rattle.rule_types.specs.Tokens.{WrittenPart}
 use Rattle.rule_core.specs.declared.names.NamePlace.{NamePlace}
-use Rattle.rule_core.specs.declared.spot.Spot.{Spot}
+use Rattle.rule_types.specs.declared.spot.Spot.{Spot}
 use Rattle.rule_core.specs.Drafts.{Draft, again_in, draft, draft_of, draft_with, given_again, given_again_after, goto_at, label_at, name_place, part_again, parts_of}
 use Rattle.rule_core.specs.Style.{between, commas, gap_findings, operator_findings, style_after, style_findings}
 use Rattle.rule_jumps.specs.Jumps.{Names, landings}

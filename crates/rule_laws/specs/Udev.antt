@@ -4,7 +4,7 @@ use Rattle.text_bytes.specs.declared.profile.Profile.TheVariants.{Udev}
 use Rattle.rule_tokens.specs.Grammar.{AllAre, BeginsOther, Placed, is_gap_byte}
 use Rattle.rule_types.specs.declared.part.Part.TheVariants as part
 use Rattle.rule_core.specs.Drafts.{draft, given_again_after, lost_name, name_place}
-use Rattle.rule_core.specs.Written.{WrittenPart}
+use Rattle.rule_types.specs.Tokens.{WrittenPart}
 
 -- only commas and blanks come before a place of a line, and none there
 pub record IsFirstPlace (line : List ℕ) (place : ℕ) : Type 0 where

@@ -13,7 +13,7 @@ ghost use Rattle.rule_laws.specs.Turns.{EachKeyAsWritten, acts_in_order, key_and
 ghost use Rattle.rule_core.specs.Laws.{AreInOrder, IsPlain, IsReportedWhereAgain, NoneIsLost};
 ghost use Rattle.rule_core.specs.Style.{style_findings};
 ghost use Rattle.rule_core.specs.Turns.{turn_of_act_kind, turn_of_change};
-ghost use Rattle.rule_core.specs.Written.{WrittenPart};
+ghost use Rattle.rule_types.specs.Tokens.{WrittenPart};
 
 /// The acts and the assignments among parts are put in the order of their turns, those of one turn as they are
 /// written.

@@ -4,7 +4,7 @@ ghost use Rattle.text_bytes.specs.declared.profile.Profile.TheVariants.{Udev};
 ghost use Rattle.rule_types.specs.declared.part.Part.{Part};
 ghost use Rattle.rule_tokens.specs.Grammar.{Placed};
 ghost use Rattle.rule_core.specs.Drafts.{first_place, sets_of};
-ghost use Rattle.rule_core.specs.Written.{WrittenPart};
+ghost use Rattle.rule_types.specs.Tokens.{WrittenPart};
 ghost use Rattle.rule_laws.specs.LineEnds.{StaysAsRead, TakesLongestEnd};
 ghost use Rattle.rule_laws.specs.Turns.{KnownComeLast};
 ghost use Rattle.rule_laws.specs.Udev.{CountsInPlace, IsFirstPlace};

@@ -4,7 +4,7 @@ use Rattle.std.proofs.lemmas.Bool.{eq-eqb, eqb-true, false≢true, or_left, or_r
 use Rattle.std.specs.List.{AllByRecursion, list_any}
 use Rattle.rule_lints.specs.Devices.{group_of, is_kind, is_of_net, is_other, number, stranger, stranger_by}
 use Rattle.rule_lints.specs.Laws.{AreOfOneGroup, AsksForNet, IsStranger}
-use Rattle.rule_core.specs.Written.{WrittenPart}
+use Rattle.rule_types.specs.Tokens.{WrittenPart}
 use Rattle.rule_lints.specs.declared.devices.Group.{Group}
 use Rattle.rule_lints.specs.declared.devices.Group.TheVariants.{UsbDevice, UsbInterface, Input, Pci, Tty, Net, Block, Hidraw, Sound, Video}
 use Rattle.rule_lints.specs.declared.devices.Side.{Side}

@@ -12,7 +12,7 @@ use Rattle.rule_types.specs.declared.roles.UpKey.{UpKey}
 use Rattle.rule_types.specs.declared.roles.UpKey.TheVariants as up
 use Rattle.text_tables.specs.Texts.{is_among, same_text}
 use Rattle.rule_tokens.specs.Grammar.{Placed}
-use Rattle.rule_core.specs.Written.{WrittenPart}
+use Rattle.rule_types.specs.Tokens.{WrittenPart}
 use Rattle.rule_lints.specs.declared.devices.Group.{Group}
 use Rattle.rule_lints.specs.declared.devices.Group.TheVariants.{UsbDevice, UsbInterface, Input, Pci, Tty, Net, Block, Hidraw, Sound, Video}
 use Rattle.rule_lints.specs.declared.devices.Side.{Side}

@@ -11,7 +11,7 @@ use Rattle.rule_lints.specs.Devices.{group_of, is_other}
 use Rattle.rule_lints.specs.LetterCase.{is_miswritten}
 use Rattle.rule_lints.specs.Patterns.{are_expressions, close_parenthesis, open_parenthesis, take_all}
 use Rattle.rule_lints.specs.Texts.{has_byte}
-use Rattle.rule_core.specs.Written.{WrittenPart}
+use Rattle.rule_types.specs.Tokens.{WrittenPart}
 use Rattle.rule_lints.specs.declared.devices.Group.{Group}
 use Rattle.rule_lints.specs.declared.devices.Group.TheVariants.{Net}
 use Rattle.rule_lints.specs.declared.devices.Side.{Side}

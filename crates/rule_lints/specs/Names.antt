@@ -17,7 +17,7 @@ use Rattle.rule_types.specs.declared.roles.PlainKey.TheVariants as plain
 use Rattle.rule_types.specs.declared.roles.Target.TheVariants as target
 use Rattle.rule_lints.specs.Parts.{change_of, is_equal}
 use Rattle.rule_lints.specs.Texts.{has_byte}
-use Rattle.rule_core.specs.Written.{WrittenPart}
+use Rattle.rule_types.specs.Tokens.{WrittenPart}
 
 -- whether a comparison holds for a text
 abbrev pub meets : List ℕ → Comparison → Bool

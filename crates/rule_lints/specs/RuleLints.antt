@@ -14,9 +14,9 @@ use Rattle.rule_lints.specs.LetterCase.{wrong_case}
 use Rattle.rule_lints.specs.Modes.{wrong_mode}
 use Rattle.rule_lints.specs.Names.{dev_link, is_outside_net, link_given, name_given, quoted_name}
 use Rattle.rule_lints.specs.Patterns.{always_holds, expression, is_no_pattern}
-use Rattle.rule_core.specs.Spots.{spot_at_key, value_spot}
-use Rattle.rule_core.specs.Written.{WrittenPart}
-use Rattle.rule_core.specs.declared.spot.Spot.{Spot}
+use Rattle.rule_types.specs.Spots.{spot_at_key, value_spot}
+use Rattle.rule_types.specs.Tokens.{WrittenPart}
+use Rattle.rule_types.specs.declared.spot.Spot.{Spot}
 
 -- the text with which a lint of single tokens is reported for this one, if it is reported
 abbrev pub word_of : Profile → Lint → WrittenPart → Option (List ℕ)

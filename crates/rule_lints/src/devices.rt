@@ -5,8 +5,8 @@ ghost use Rattle.rule_lints.specs.Devices.{group_of_parent, group_of_part, group
 ghost use Rattle.rule_lints.specs.Devices.{is_same, number, stranger};
 
 use crate::texts::{has_byte, rest_after_first};
-use rule_core::{Token, WrittenPart};
-use rule_types::{MatchOperator, Part, PlainKey, UpKey};
+use rule_tokens::Token;
+use rule_types::{MatchOperator, Part, PlainKey, UpKey, WrittenPart};
 use text_tables::is_among;
 
 /// A kind of devices.

@@ -25,7 +25,7 @@ ghost use Rattle.text_tables.specs.Texts.{same_text};
 ghost use Rattle.rule_lints.specs.declared.devices.Group.TheVariants.{Block, Input, Net, Tty, UsbInterface};
 ghost use Rattle.rule_lints.specs.declared.devices.Side.{Side};
 ghost use Rattle.rule_lints.specs.declared.letter_case.Writing.TheVariants.{Alias, Lower, Prefixed};
-ghost use Rattle.rule_core.specs.Written.{WrittenPart};
+ghost use Rattle.rule_types.specs.Tokens.{WrittenPart};
 
 /// A text gives a mode if and only if it is one octal digit or more, and nothing else, of a number of at most 7777.
 #[tactic(auto, using(crate::proofs::ModeLaw::modes_written))]

@@ -13,8 +13,8 @@ use crate::lint::Lint;
 use crate::modes::wrong_mode;
 use crate::names::{dev_link, is_outside_net, link_given, name_given, quoted_name};
 use crate::patterns::{always_holds, expression, is_no_pattern};
-use rule_core::{Spot, WrittenPart, spot_at_key, value_spot};
 use rule_tokens::Token;
+use rule_types::{Spot, WrittenPart, spot_at_key, value_spot};
 use std::alloc::{AllocError, Global};
 use text_bytes::{Bytes, Profile};
 

@@ -7,9 +7,8 @@ ghost use Rattle.rule_lints.specs.Names.{name_given, name_in, quoted_name};
 
 use crate::parts::change_of;
 use crate::texts::has_byte;
-use rule_core::WrittenPart;
 use rule_tokens::Token;
-use rule_types::{Change, Comparison, MatchOperator, Part, PlainKey, Target};
+use rule_types::{Change, Comparison, MatchOperator, Part, PlainKey, Target, WrittenPart};
 use text_bytes::{Profile, is_blank};
 
 /// Whether a rule holds for no network device.

@@ -13,7 +13,7 @@ use Rattle.rule_core.specs.Ends.{abandoned}
 use Rattle.rule_core.specs.Lines.{joined_lines}
 use Rattle.rule_core.specs.Drafts.{draft_of}
 use Rattle.rule_core.specs.Rules.{line_findings, names_of, reading_of}
-use Rattle.rule_core.specs.declared.spot.Spot.{Spot}
+use Rattle.rule_types.specs.declared.spot.Spot.{Spot}
 use Rattle.rule_places.specs.Files.{findings_of_lines, findings_unless, open_findings, placed_findings, placed_from}
 use Rattle.rule_places.specs.Kept.{kept_lines, place_in}
 use Rattle.rule_places.specs.Laws.{IsFoundIn, IsInFile, IsTextThere}

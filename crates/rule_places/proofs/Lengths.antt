@@ -6,8 +6,9 @@ use Rattle.file_messages.specs.declared.message.MessageKind.{MessageKind}
 use Rattle.rule_jumps.specs.declared.jumps.Landing.{Landing}
 use Rattle.rule_core.specs.Drafts.{Draft, draft_of, most_bytes}
 use Rattle.rule_core.specs.Rules.{line_findings}
-use Rattle.rule_core.specs.Spots.{spot, whole_spot}
-use Rattle.rule_core.specs.declared.spot.Spot.{Spot}
+use Rattle.rule_types.specs.Spots.{spot}
+use Rattle.rule_core.specs.Spots.{whole_spot}
+use Rattle.rule_types.specs.declared.spot.Spot.{Spot}
 
 -- a line that is too long
 too_long : (by : Profile) (line : List ℕ) → most_bytes by < length line → draft_of by line ≡ Err (whole_spot LineTooLong line)

@@ -10,7 +10,7 @@ use Rattle.rule_jumps.specs.declared.jumps.Landing.{Landing}
 use Rattle.rule_core.specs.Ends.{abandoned}
 use Rattle.rule_core.specs.Lines.{joined_lines}
 use Rattle.rule_core.specs.Rules.{Reading, file_messages, landed, line_findings, line_messages, message_at, messages_unless, open_messages, readings_of}
-use Rattle.rule_core.specs.declared.spot.Spot.{Spot}
+use Rattle.rule_types.specs.declared.spot.Spot.{Spot}
 use Rattle.rule_places.specs.Files.{findings_unless, open_findings, placed_findings, placed_from, placed_line}
 use Rattle.rule_places.specs.Kept.{kept_lines}
 use Rattle.rule_places.specs.Laws.{as_message}

@@ -11,8 +11,9 @@ use Rattle.rule_tokens.specs.declared.kinds.TokenFaultKind.{TokenFaultKind}
 use Rattle.rule_tokens.specs.declared.kinds.TokenFaultKind.TheVariants.{Syntax, Prefix}
 use Rattle.rule_parts.specs.Parts.{meaning_of}
 use Rattle.rule_places.specs.Laws.{FollowsTokens, IsBeforeTokens, IsQuoted, IsQuotedThere, IsTextThere, IsWholeLine, PrecedesTokens, escapes_quotes, is_about_commas, is_about_leading_commas, is_about_rule, is_about_text, is_about_value}
-use Rattle.rule_core.specs.Spots.{attribute_spot, is_of_attribute, is_of_key, key_spot, part_spot, spot, token_spot, value_spot, value_start}
-use Rattle.rule_core.specs.declared.spot.Spot.{Spot}
+use Rattle.rule_types.specs.Spots.{spot, value_spot, value_start}
+use Rattle.rule_core.specs.Spots.{attribute_spot, is_of_attribute, is_of_key, key_spot, part_spot, token_spot}
+use Rattle.rule_types.specs.declared.spot.Spot.{Spot}
 use Rattle.rule_places.proofs.Prefixes.{letters_in_place}
 use Rattle.rule_places.proofs.Quotes.{value_escaped}
 use Rattle.rule_places.proofs.Reporting.{is_of_token}

@@ -23,11 +23,12 @@ use Rattle.rule_types.specs.declared.part.Part.TheVariants as part
 use Rattle.rule_core.specs.Drafts.{Draft, again_in, draft, draft_of, draft_with, first_place, given_again, given_again_after, given_twice, goto_at, idle_spot, items_as, label_again, label_among, label_at, lost_name, most_bytes, name_place, part_again, part_of_item, parts_of, with_part, written_part}
 use Rattle.rule_core.specs.Effects.{is_unknown_option, lacks_effect, unknown_option}
 use Rattle.rule_core.specs.Rules.{line_findings, name_spot}
-use Rattle.rule_core.specs.Spots.{key_spot, spot, token_spot, value_start, whole_spot}
+use Rattle.rule_types.specs.Spots.{spot, value_start}
+use Rattle.rule_core.specs.Spots.{key_spot, token_spot, whole_spot}
 use Rattle.rule_core.specs.Style.{between, comma_findings, commas, gap_findings, has_blank_before_comma, leading_findings, operator_findings, read_as_assign_kind, style_after, style_findings, whole_gap}
-use Rattle.rule_core.specs.Written.{WrittenPart, tokens_in}
+use Rattle.rule_types.specs.Tokens.{WrittenPart, tokens_in}
 use Rattle.rule_core.specs.declared.names.NamePlace.{NamePlace}
-use Rattle.rule_core.specs.declared.spot.Spot.{Spot}
+use Rattle.rule_types.specs.declared.spot.Spot.{Spot}
 use Rattle.rule_places.specs.Laws.{FollowsTokens, IsAfterTokens, IsQuoted, IsQuotedThere, IsTextThere, IsWholeLine, PrecedesTokens, is_about_jump, is_about_text, is_about_value}
 use Rattle.rule_places.proofs.Prefixes.{FaultIs, all_faults}
 use Rattle.rule_places.proofs.Ending.{BeginsAt, EndsInGap, EndsLast, all_begin, all_end}

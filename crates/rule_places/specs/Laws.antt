@@ -21,7 +21,7 @@ use Rattle.rule_core.specs.Style.{commas}
 use Rattle.rule_places.specs.Shown.{IsAmong}
 use Rattle.rule_places.specs.declared.kept.Place.{Place}
 use Rattle.rule_places.specs.declared.placed_finding.PlacedFinding.{PlacedFinding}
-use Rattle.rule_core.specs.declared.spot.Spot.{Spot}
+use Rattle.rule_types.specs.declared.spot.Spot.{Spot}
 
 -- a finding of a file of this name, as its message
 abbrev pub as_message : List ℕ → PlacedFinding MessageKind → Message

@@ -4,7 +4,7 @@ use Rattle.rule_places.specs.Kept.{place_in}
 use Rattle.rule_places.specs.declared.kept.KeptLine.{KeptLine}
 use Rattle.rule_places.specs.declared.kept.Place.{Place}
 use Rattle.rule_places.specs.declared.placed_finding.PlacedFinding.{PlacedFinding}
-use Rattle.rule_core.specs.declared.spot.Spot.{Spot}
+use Rattle.rule_types.specs.declared.spot.Spot.{Spot}
 
 -- what is reported for a line of this number, at a place and with a text
 abbrev pub found_at : {K : Type 0} → ℕ → Place → K → List ℕ → PlacedFinding K

@@ -10,7 +10,7 @@ ghost use Rattle.rule_core.specs.Drafts.{draft_of, most_bytes};
 ghost use Rattle.rule_core.specs.Ends.{abandoned};
 ghost use Rattle.rule_core.specs.Lines.{joined_lines};
 ghost use Rattle.rule_core.specs.Rules.{file_messages, line_findings};
-ghost use Rattle.rule_core.specs.Spots.{spot};
+ghost use Rattle.rule_types.specs.Spots.{spot};
 ghost use Rattle.rule_places.specs.Files.{placed_findings};
 ghost use Rattle.rule_places.specs.Kept.{kept_lines, place_in};
 ghost use Rattle.rule_places.specs.Laws.{EndsOpen, FollowsTokens, IsFoundIn, IsInFile, IsQuotedThere, IsReportedForOneLine};

@@ -10,8 +10,8 @@ use Rattle.rule_core.specs.Drafts.{Draft, draft_of}
 use Rattle.rule_core.specs.Ends.{abandoned}
 use Rattle.rule_core.specs.Lines.{joined_lines}
 use Rattle.rule_core.specs.Rules.{names_of, reading_of}
-use Rattle.rule_core.specs.Written.{tokens_in}
-use Rattle.rule_core.specs.declared.spot.Spot.{Spot}
+use Rattle.rule_types.specs.Tokens.{tokens_in}
+use Rattle.rule_types.specs.declared.spot.Spot.{Spot}
 use Rattle.rule_pairs.specs.Accounts.{Accounts}
 use Rattle.rule_places.specs.Kept.{kept_lines}
 use Rattle.rule_places.specs.Placed.{placed}

@@ -19,7 +19,7 @@ use Rattle.rule_parts.specs.Parts.{part_of}
 use Rattle.rule_parts.specs.declared.finding.Finding.{Finding}
 use Rattle.rule_core.specs.Drafts.{draft, draft_of, draft_with, idle_spot, items_as, most_bytes, parts_of, with_part, written_part}
 use Rattle.rule_core.specs.Effects.{lacks_effect, unknown_option}
-use Rattle.rule_core.specs.Written.{WrittenPart, tokens_in}
+use Rattle.rule_types.specs.Tokens.{WrittenPart, tokens_in}
 use Rattle.rule_pairs.specs.Accounts.{Accounts, given_in}
 use Rattle.rule_pairs.specs.Pairs.{message_of, pair_findings}
 use Rattle.rule_pairs.specs.declared.accounts.AccountKind.TheVariants.{User, Group}
@@ -29,8 +29,9 @@ use Rattle.rule_pairs.specs.declared.pair_finding.PairFinding.{PairFinding}
 use Rattle.rule_pairs.specs.declared.pair_finding.PairKind.{PairKind}
 use Rattle.rule_pairs.specs.declared.pair_finding.PairKind.TheVariants.{Same, Against}
 use Rattle.rule_places.specs.Laws.{IsQuotedThere, IsTextThere, is_about_text, is_about_value}
-use Rattle.rule_core.specs.Spots.{attribute_spot, key_spot, token_spot, value_spot, whole_spot}
-use Rattle.rule_core.specs.declared.spot.Spot.{Spot}
+use Rattle.rule_types.specs.Spots.{value_spot}
+use Rattle.rule_core.specs.Spots.{attribute_spot, key_spot, token_spot, whole_spot}
+use Rattle.rule_types.specs.declared.spot.Spot.{Spot}
 use Rattle.rule_places.proofs.PartPlacement.{AllPresent, IsPresent, attribute_in_place, both, key_in_place, one_or_none, value_in_place}
 use Rattle.rule_places.proofs.Placement.{all_lie, weaker}
 use Rattle.rule_remarks.specs.Attributes.{is_bad_name, is_elsewhere}

@@ -11,8 +11,9 @@ use Rattle.rule_parts.specs.Parts.{meaning_of}
 use Rattle.rule_pairs.specs.Accounts.{Accounts}
 use Rattle.rule_pairs.specs.Pairs.{message_of, pair_findings}
 use Rattle.rule_pairs.specs.declared.pair_finding.PairFinding.{PairFinding}
-use Rattle.rule_core.specs.Spots.{attribute_spot, key_spot, value_spot}
-use Rattle.rule_core.specs.declared.spot.Spot.{Spot}
+use Rattle.rule_types.specs.Spots.{value_spot}
+use Rattle.rule_core.specs.Spots.{attribute_spot, key_spot}
+use Rattle.rule_types.specs.declared.spot.Spot.{Spot}
 use Rattle.rule_remarks.specs.Attributes.{is_bad_name, is_elsewhere}
 use Rattle.rule_remarks.specs.Values.{value_fault}
 

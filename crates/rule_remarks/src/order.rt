@@ -1,6 +1,6 @@
 //! A PROGRAM that follows a RESULT.
 ghost use Rattle.std.specs.Prelude.{◌≡◌, option_map};
-ghost use Rattle.rule_core.specs.Written.{tokens_in};
+ghost use Rattle.rule_types.specs.Tokens.{tokens_in};
 ghost use Rattle.rule_remarks.specs.Remarks.{is_program, is_result, late_program};
 
 use rule_core::WrittenPart;

@@ -1,6 +1,6 @@
 //! What is reported for the tokens of a rule that stays.
 ghost use Rattle.std.specs.Prelude.{◌≡◌, ◌∷◌, ◌++◌, [], IfOk, OnOk, filter_map, flat_map, map, option_map, slice_get};
-ghost use Rattle.rule_core.specs.Written.{tokens_in};
+ghost use Rattle.rule_types.specs.Tokens.{tokens_in};
 ghost use Rattle.rule_remarks.specs.Remarks.{late_program, order_remarks, pair_remark, rule_remarks, token_remarks};
 
 use crate::order::late_program;

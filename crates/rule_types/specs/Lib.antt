@@ -4,5 +4,7 @@ pub mod Topics
 pub mod Roles
 pub mod Operators
 pub mod WrittenParts
+pub mod Tokens
+pub mod Spots
 pub mod Rules
 pub mod Builtins

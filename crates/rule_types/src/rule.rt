@@ -8,14 +8,23 @@ use text_bytes::Bytes;
 /// A rule: its file and line, its names for jumps, and its parts in the order in which they are evaluated.
 #[derive(Drop)]
 pub struct Rule {
+    /// The name of the file that it is in.
     pub file: Bytes,
+    /// The number of its first line, counted from 1; at most 2^32 - 1.
     pub line: u32,
+    /// The name that a jump finds it by.
     pub label: Option<Bytes>,
+    /// The label of a later rule of its file to which it jumps.
     pub goto: Option<Bytes>,
+    /// The matches of the event device, in written order.
     pub plain: Vec<PlainMatch>,
+    /// The matches of one device of the chain, in written order.
     pub up: Vec<UpMatch>,
+    /// The parts that act: TEST, then PROGRAM, then IMPORT by its type, those of one kind in written order.
     pub acts: Vec<Act>,
+    /// The matches of RESULT, in written order.
     pub results: Vec<Comparison>,
+    /// The assignments, by their kind, those of one kind in written order.
     pub sets: Vec<Assignment>,
 }
 
@@ -38,21 +47,14 @@ impl Model for Rule {
 }
 
 impl Rule {
-    /// Returns the name of the file that it is in.
+    /// The name of its file, as bytes.
     pub fn file(&self) -> &[u8]
         ensures { result.now ≡ self.now.file }
     {
         self.file.as_slice()
     }
 
-    /// The number of its first line, counted from 1; at most 2^32 - 1.
-    pub fn line(&self) -> u32
-        ensures { result ≡ self.now.line }
-    {
-        self.line
-    }
-
-    /// The name that a jump finds it by.
+    /// The name that a jump finds it by, as bytes.
     pub fn label(&self) -> Option<&[u8]>
         ensures { option_map (λ t. t.now) result ≡ self.now.label }
     {
@@ -62,7 +64,7 @@ impl Rule {
         }
     }
 
-    /// The label of a later rule of its file to which it jumps.
+    /// The label to which it jumps, as bytes.
     pub fn goto(&self) -> Option<&[u8]>
         ensures { option_map (λ t. t.now) result ≡ self.now.goto }
     {
@@ -70,40 +72,5 @@ impl Rule {
             None => None,
             Some(text) => Some(text.as_slice()),
         }
-    }
-
-    /// Returns the matches of the event device, in written order.
-    pub fn plain(&self) -> &[PlainMatch]
-        ensures { result.now ≡ self.now.plain }
-    {
-        &self.plain
-    }
-
-    /// Returns the matches of one device of the chain, in written order.
-    pub fn up(&self) -> &[UpMatch]
-        ensures { result.now ≡ self.now.up }
-    {
-        &self.up
-    }
-
-    /// Returns the parts that act: TEST, then PROGRAM, then IMPORT by its type, those of one kind in written order.
-    pub fn acts(&self) -> &[Act]
-        ensures { result.now ≡ self.now.acts }
-    {
-        &self.acts
-    }
-
-    /// Returns the matches of RESULT, in written order.
-    pub fn results(&self) -> &[Comparison]
-        ensures { result.now ≡ self.now.results }
-    {
-        &self.results
-    }
-
-    /// Returns the assignments, by their kind, those of one kind in written order.
-    pub fn sets(&self) -> &[Assignment]
-        ensures { result.now ≡ self.now.sets }
-    {
-        &self.sets
     }
 }

@@ -4,7 +4,7 @@ use Rattle.std.specs.Prelude.{Bool, true, false, not, ◌&&◌, ◌||◌, List, 
 use Rattle.std.specs.List.{list_any}
 use Rattle.text_bytes.specs.Texts.{is_empty}
 use Rattle.text_tables.specs.Texts.{Text, is_among, same_text}
-use Rattle.rule_core.specs.Written.{WrittenPart}
+use Rattle.rule_types.specs.Tokens.{WrittenPart}
 use Rattle.rule_tokens.specs.Grammar.{Placed, compares}
 use Rattle.rule_tokens.specs.declared.kinds.Operator.{Operator}
 use Rattle.rule_tokens.specs.declared.kinds.Operator.TheVariants as op

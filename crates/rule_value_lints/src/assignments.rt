@@ -10,8 +10,8 @@ use crate::tables::{
 };
 use crate::texts::has_name;
 use crate::values::is_constant;
-use rule_core::WrittenPart;
 use rule_tokens::{Operator, Token};
+use rule_types::WrittenPart;
 use text_tables::is_among;
 
 /// The keys of tags.

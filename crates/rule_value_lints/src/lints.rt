@@ -11,8 +11,8 @@ use crate::assignments::{
 use crate::near::known_instead;
 use crate::never::impossible;
 use crate::values::{is_blank_beside_bar, is_compared, is_long_name, is_no_substitution};
-use rule_core::{Spot, WrittenPart};
 use rule_lints::{Lint, add_word};
+use rule_types::{Spot, WrittenPart};
 use std::alloc::{AllocError, Global};
 use std::marker::Model;
 

@@ -1,7 +1,7 @@
 use Rattle.std.proofs.Common.{◌≡◌, drop}
 use Rattle.std.specs.List.{list_any}
 use Rattle.rule_core.specs.Effects.{has_effect}
-use Rattle.rule_core.specs.Written.{tokens_in}
+use Rattle.rule_types.specs.Tokens.{tokens_in}
 use Rattle.rule_core.proofs.effects.some_has_effect.Given as goal
 
 abbrev pub invariant-loop-written : goal.invariant-loop-written

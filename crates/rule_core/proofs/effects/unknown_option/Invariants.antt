@@ -1,6 +1,6 @@
 use Rattle.std.proofs.Common.{◌≡◌, drop}
 use Rattle.rule_core.specs.Effects.{unknown_option}
-use Rattle.rule_core.specs.Written.{tokens_in}
+use Rattle.rule_types.specs.Tokens.{tokens_in}
 use Rattle.rule_core.proofs.effects.unknown_option.Given as goal
 
 abbrev pub invariant-loop-written : goal.invariant-loop-written

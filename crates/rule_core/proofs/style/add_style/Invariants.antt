@@ -1,7 +1,7 @@
 use Rattle.std.proofs.Common.{◌≡◌, ◌++◌, drop}
 use Rattle.rule_core.specs.Places.{findings_from}
 use Rattle.rule_core.specs.Style.{style_findings}
-use Rattle.rule_core.specs.Written.{tokens_in}
+use Rattle.rule_types.specs.Tokens.{tokens_in}
 use Rattle.rule_core.proofs.style.add_style.Given as goal
 
 abbrev pub invariant-loop-written : goal.invariant-loop-written

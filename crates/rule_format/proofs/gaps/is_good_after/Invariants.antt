@@ -1,5 +1,5 @@
 use Rattle.std.proofs.Common.{◌≡◌, drop}
-use Rattle.rule_core.specs.Written.{tokens_in}
+use Rattle.rule_types.specs.Tokens.{tokens_in}
 use Rattle.rule_format.specs.Gaps.{is_good_after}
 use Rattle.rule_format.proofs.gaps.is_good_after.Given as goal
 

@@ -1,5 +1,5 @@
 use Rattle.std.proofs.Common.{◌≡◌, ◌++◌, drop}
-use Rattle.rule_core.specs.Written.{tokens_in}
+use Rattle.rule_types.specs.Tokens.{tokens_in}
 use Rattle.rule_format.specs.Stretches.{stretches_from}
 use Rattle.rule_format.proofs.stretches.stretches_from.Given as goal
 

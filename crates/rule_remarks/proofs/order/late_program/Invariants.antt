@@ -1,5 +1,5 @@
 use Rattle.std.proofs.Common.{◌≡◌, drop}
-use Rattle.rule_core.specs.Written.{tokens_in}
+use Rattle.rule_types.specs.Tokens.{tokens_in}
 use Rattle.rule_remarks.specs.Remarks.{late_program}
 use Rattle.rule_remarks.proofs.Late.{following}
 use Rattle.rule_remarks.proofs.order.late_program.Given as goal

@@ -1,5 +1,5 @@
 use Rattle.std.proofs.Common.{◌≡◌, ◌++◌, drop, filter_map}
-use Rattle.rule_core.specs.Written.{tokens_in}
+use Rattle.rule_types.specs.Tokens.{tokens_in}
 use Rattle.rule_remarks.specs.Remarks.{pair_remark}
 use Rattle.rule_remarks.proofs.rule_remarks.add_pairs.Given as goal
 

@@ -1,5 +1,5 @@
 use Rattle.std.proofs.Common.{◌≡◌, map, take}
-use Rattle.rule_core.specs.Written.{tokens_in}
+use Rattle.rule_types.specs.Tokens.{tokens_in}
 use Rattle.rule_remarks.proofs.rule_remarks.tokens_of.Given as goal
 
 abbrev pub invariant-loop-written : goal.invariant-loop-written

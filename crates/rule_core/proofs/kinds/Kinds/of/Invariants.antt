@@ -1,6 +1,6 @@
 use Rattle.std.proofs.Common.{◌≡◌}
 use Rattle.rule_core.specs.Taking.{kinds_of}
-use Rattle.rule_core.specs.Written.{parts_in}
+use Rattle.rule_types.specs.Tokens.{parts_in}
 use Rattle.rule_core.proofs.kinds.Kinds.of.Given as goal
 
 abbrev pub invariant-loop-written : goal.invariant-loop-written

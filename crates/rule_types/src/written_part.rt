@@ -1,7 +1,7 @@
 //! A token of a rule with the part of the rule that it is.
 
+use crate::part::Part;
 use rule_tokens::Token;
-use rule_types::Part;
 use std::marker::Model;
 
 /// A token of a rule with the part of the rule that it is.
@@ -14,9 +14,9 @@ pub struct WrittenPart<'a> {
 }
 
 impl<'a> Model for WrittenPart<'a> {
-    ghost use Rattle.rule_core.specs.Written as written;
+    ghost use Rattle.rule_types.specs.Tokens as tokens;
 
-    ghost Value = { written.WrittenPart };
+    ghost Value = { tokens.WrittenPart };
 
     ghost view = { λ w. record { token = w.token; part = w.part } };
 }

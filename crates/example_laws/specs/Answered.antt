@@ -29,7 +29,7 @@ file_with kind name bytes = record { kind = kind; rank = 0; name = name; bytes =
 
 -- one file of rules, `r.rules`, as it is read by a profile
 abbrev pub read_by : Profile → Text → ReadRules
-read_by by rules = set_of_as by (file_as_read by (file_with Rules (codes "r.rules") rules) ∷ [])
+read_by profile rules = set_of_as profile (file_as_read profile (file_with Rules (codes "r.rules") rules) ∷ [])
 
 -- the entries of one file of a database, `d.hwdb`
 abbrev pub entries_in : Text → List Entry
@@ -51,12 +51,12 @@ only_entries entries = record {
 
 -- the answer to an event over which rules are evaluated by a profile, or what is wrong with its block
 abbrev pub answer_to : (EventValue → Text) → Profile → Result EventValue BlockFault → Text
-answer_to answering by (Ok event) = answering (by_profile by event)
-answer_to answering by (Err fault) = fault_text fault
+answer_to answering profile (Ok event) = answering (by_profile profile event)
+answer_to answering profile (Err fault) = fault_text fault
 
 -- what `events` answers, by a profile, the text of a rules file, that of a file of a database, and that of a block
 unfoldable pub answered_by : Profile → Text → Text → Text → Text
-answered_by by rules database block = answer_to (answer_by (read_by by rules).rules (only_entries (entries_in database))) by (block_gives block)
+answered_by profile rules database block = answer_to (answer_by (read_by profile rules).rules (only_entries (entries_in database))) profile (block_gives block)
 
 -- what it answers by the manual
 abbrev pub answered_with_database : Text → Text → Text → Text

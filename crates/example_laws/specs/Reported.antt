@@ -36,7 +36,7 @@ asked_answer read known event = question_answer read.rules known event
 
 -- what is answered to a block in such a way, by a profile and the text of a rules file, without a database
 abbrev pub answered_so : (ReadRules → Known → EventValue → Text) → Profile → Text → Text → Text
-answered_so way by rules block = answer_to (way (read_by by rules) (only_entries [])) by (block_gives block)
+answered_so way profile rules block = answer_to (way (read_by profile rules) (only_entries [])) profile (block_gives block)
 
 -- what `events --sources` answers
 unfoldable pub sourced : Text → Text → Text
@@ -64,7 +64,7 @@ asked_in_vain why rules = let read = read_by Manual rules in unknown (why ∷ []
 
 -- the lines that follow the answers of `events --unused`, by a profile, the text of a rules file and that of an input
 unfoldable pub unused_by : Profile → Text → Text → Text
-unused_by by rules input = unused_lines [] (read_by by rules).rules (only_entries []) (events_of by input)
+unused_by profile rules input = unused_lines [] (read_by profile rules).rules (only_entries []) (events_of profile input)
 
 -- what is said with `--format=human` after messages, by the text of an input, where each event is answered with the line `a`
 unfoldable pub told_people : Text → Text → RunOutcome

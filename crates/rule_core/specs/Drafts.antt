@@ -41,7 +41,7 @@ first_place Udev line = prefix_len is_gap_byte line
 
 -- the items of a line
 abbrev pub items_as : Profile → List ℕ → List Item
-items_as by line = items_from (first_place by line) line
+items_as profile line = items_from (first_place profile line) line
 
 -- a token with the part of a rule that it is, or the finding about it
 abbrev pub written_part : Placed → Result Part Finding → Result WrittenPart (Spot MessageKind)
@@ -50,8 +50,8 @@ written_part t (Err found) = Err (part_spot found.kind t)
 
 -- an item of a line as a token of a rule
 abbrev pub part_of_item : Profile → List ℕ → Item → Result WrittenPart (Spot MessageKind)
-part_of_item by line (Ok t) = written_part t (part_of by t)
-part_of_item by line (Err fault) = Err (token_spot fault.kind fault.at line)
+part_of_item profile line (Ok t) = written_part t (part_of profile t)
+part_of_item profile line (Err fault) = Err (token_spot fault.kind fault.at line)
 
 -- a token before others; of what is wrong the first
 abbrev pub with_part : Result WrittenPart (Spot MessageKind) → Result (List WrittenPart) (Spot MessageKind) → Result (List WrittenPart) (Spot MessageKind)
@@ -61,8 +61,8 @@ with_part (Err wrong) rest = Err wrong
 
 -- the tokens that are the items of a line, each with its part, or what is wrong with the first item that is none
 abbrev pub parts_of : Profile → List ℕ → List Item → Result (List WrittenPart) (Spot MessageKind)
-parts_of by line [] = Ok []
-parts_of by line (i ∷ items) = with_part (part_of_item by line i) (parts_of by line items)
+parts_of profile line [] = Ok []
+parts_of profile line (i ∷ items) = with_part (part_of_item profile line i) (parts_of profile line items)
 
 -- what a part is, if it is that
 abbrev pub plain_in : Part → Option PlainMatch
@@ -98,7 +98,7 @@ abbrev pub acts_of : List Part → List Act
 acts_of parts = acts_by_turn (filter_map act_in parts)
 
 abbrev pub sets_of : Profile → List Part → List Assignment
-sets_of by parts = assignments_by_turn by (filter_map assignment_in parts)
+sets_of profile parts = assignments_by_turn profile (filter_map assignment_in parts)
 
 -- a name at the value of its token
 abbrev pub name_place : Placed → List ℕ → NamePlace
@@ -137,25 +137,25 @@ label_again Udev names name = lost_name (last names)
 
 -- a token that is this part, after others: a second label is one too many, and so is a second jump
 abbrev pub part_again : Profile → List WrittenPart → Placed → Part → List (Spot MessageKind)
-part_again by before t (part.Label name) = label_again by (filter_map label_at before) (name_place t name)
-part_again by before t (part.Goto name) = given_again (filter_map goto_at before) (name_place t name)
-part_again by before t _ = []
+part_again profile before t (part.Label name) = label_again profile (filter_map label_at before) (name_place t name)
+part_again profile before t (part.Goto name) = given_again (filter_map goto_at before) (name_place t name)
+part_again profile before t _ = []
 
 abbrev pub again_in : Profile → List WrittenPart → WrittenPart → List (Spot MessageKind)
-again_in by before w = part_again by before w.token w.part
+again_in profile before w = part_again profile before w.token w.part
 
 -- the names that are given again among tokens after others, in written order
 abbrev pub given_again_after : Profile → List WrittenPart → List WrittenPart → List (Spot MessageKind)
-given_again_after by before [] = []
-given_again_after by before (w ∷ parts) = again_in by before w ++ given_again_after by (before ++ w ∷ []) parts
+given_again_after profile before [] = []
+given_again_after profile before (w ∷ parts) = again_in profile before w ++ given_again_after profile (before ++ w ∷ []) parts
 
 -- the draft of the tokens of a line: of several jumps the first counts
 abbrev pub draft : Profile → List ℕ → List WrittenPart → Draft
-draft by line parts = record {
-  label = label_among by (filter_map label_at parts);
+draft profile line parts = record {
+  label = label_among profile (filter_map label_at parts);
   goto = first (filter_map goto_at parts);
   parts = parts;
-  findings = given_again_after by [] parts ++ style_findings by line (tokens_in parts);
+  findings = given_again_after profile [] parts ++ style_findings profile line (tokens_in parts);
 }
 
 -- why a rule has no effect: it has an option that udev does not know, and so leaves out, or nothing but matches
@@ -165,8 +165,9 @@ idle_spot line (Some t) = part_spot BadValue t
 
 -- the draft of tokens that were read, or what is wrong with them: udev also drops a rule without effect
 abbrev pub draft_with : Profile → List ℕ → Result (List WrittenPart) (Spot MessageKind) → Result Draft (Spot MessageKind)
-draft_with by line (Ok parts) = if lacks_effect by (tokens_in parts) then Err (idle_spot line (unknown_option (tokens_in parts))) else Ok (draft by line parts)
-draft_with by line (Err wrong) = Err wrong
+draft_with profile line (Ok parts) =
+    if lacks_effect profile (tokens_in parts) then Err (idle_spot line (unknown_option (tokens_in parts))) else Ok (draft profile line parts)
+draft_with profile line (Err wrong) = Err wrong
 
 -- the most bytes of a joined line
 abbrev pub most_bytes : Profile → ℕ
@@ -175,4 +176,6 @@ most_bytes Udev = 16383
 
 -- a joined line read as a rule: its draft, or what is wrong with it, first its length
 unfoldable pub draft_of : Profile → List ℕ → Result Draft (Spot MessageKind)
-draft_of by line = if nat_lt (most_bytes by) (length line) then Err (whole_spot LineTooLong line) else draft_with by line (parts_of by line (items_as by line))
+draft_of profile line =
+    if nat_lt (most_bytes profile) (length line) then Err (whole_spot LineTooLong line)
+    else draft_with profile line (parts_of profile line (items_as profile line))

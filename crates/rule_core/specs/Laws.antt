@@ -26,9 +26,9 @@ pub record IsInOrder {X : Type 0} (turn : X → ℕ) (written sorted : List X) :
   pub rises : RisesFrom turn 0 sorted
 
 -- the acts and the assignments among parts are put in the order of evaluation
-pub record AreInOrder (by : Profile) (parts : List Part) : Type 0 where
+pub record AreInOrder (profile : Profile) (parts : List Part) : Type 0 where
   pub acts : IsInOrder turn_of_act (filter_map act_in parts) (acts_of parts)
-  pub sets : IsInOrder (turn_of_assignment by) (filter_map assignment_in parts) (sets_of by parts)
+  pub sets : IsInOrder (turn_of_assignment profile) (filter_map assignment_in parts) (sets_of profile parts)
 
 -- each part is in one of five lists, or gives a label or a jump
 abbrev pub NoneIsLost : List Part → Type 0

@@ -65,10 +65,11 @@ run_number Udev run = last_number run
 
 -- the joined lines: of the runs that are not open, those that are not empty
 abbrev pub lines_of_runs : Profile → List (List Piece) → List NumberedLine
-lines_of_runs by [] = []
-lines_of_runs by (r ∷ rs) =
-    if is_open r then lines_of_runs by rs
-    else (if is_empty (run_text r) then lines_of_runs by rs else record { number = capped (run_number by r); text = run_text r } ∷ lines_of_runs by rs)
+lines_of_runs profile [] = []
+lines_of_runs profile (r ∷ rs) =
+    if is_open r then lines_of_runs profile rs
+    else (if is_empty (run_text r) then lines_of_runs profile rs
+    else record { number = capped (run_number profile r); text = run_text r } ∷ lines_of_runs profile rs)
 
 -- the number with which a run that is open at the end is reported: that of its first line, for udev that of the
 -- file's last
@@ -78,8 +79,8 @@ open_number Udev last run = last
 
 -- the number of the run that is open, if one is, in a file with a last line of this number
 abbrev pub open_of_runs : Profile → ℕ → List (List Piece) → Option ℕ
-open_of_runs by last [] = None
-open_of_runs by last (r ∷ rs) = if is_open r then Some (capped (open_number by last r)) else open_of_runs by last rs
+open_of_runs profile last [] = None
+open_of_runs profile last (r ∷ rs) = if is_open r then Some (capped (open_number profile last r)) else open_of_runs profile last rs
 
 -- the joined lines of a file, and the number of the one that is still open at its end
 pub record Joined : Type 0 where
@@ -92,8 +93,8 @@ joined_as ls o = record { lines = ls; open_at = o }
 
 -- the joined lines that the pieces of a file make, whose last line has this number
 abbrev pub joined : Profile → ℕ → List Piece → Joined
-joined by last ps = joined_as (lines_of_runs by (runs ps)) (open_of_runs by last (runs ps))
+joined profile last ps = joined_as (lines_of_runs profile (runs ps)) (open_of_runs profile last (runs ps))
 
 -- the joined lines of a file, whose lines are counted from 1
 abbrev pub joined_lines : Profile → List ℕ → Joined
-joined_lines by bytes = joined by (length (lines bytes)) (map piece_of (kept (numbered_from 1 (lines bytes))))
+joined_lines profile bytes = joined profile (length (lines bytes)) (map piece_of (kept (numbered_from 1 (lines bytes))))

@@ -9,8 +9,8 @@ use Rattle.rule_types.specs.declared.spot.Spot.{Spot}
 
 -- the gap before a token, from the place where the token before it ends, if there is one
 abbrev pub findings_before : Profile → List ℕ → Option ℕ → Placed → List (Spot MessageKind)
-findings_before by line None t = leading_findings by (between 0 t.span.start line)
-findings_before by line (Some place) t = gap_findings by (between place t.span.start line) t
+findings_before profile line None t = leading_findings profile (between 0 t.span.start line)
+findings_before profile line (Some place) t = gap_findings profile (between place t.span.start line) t
 
 -- the gap at the end of a line, from the place where its last token ends, if there is one
 abbrev pub findings_at_end : List ℕ → Option ℕ → List (Spot MessageKind)
@@ -19,8 +19,8 @@ findings_at_end line (Some place) = whole_gap CommaExpected place (drop place li
 
 -- the tokens after the place where a token ends, or all of them
 abbrev pub findings_from : Profile → List ℕ → Option ℕ → List Placed → List (Spot MessageKind)
-findings_from by line None tokens = style_findings by line tokens
-findings_from by line (Some place) tokens = style_after by line place tokens
+findings_from profile line None tokens = style_findings profile line tokens
+findings_from profile line (Some place) tokens = style_after profile line place tokens
 
 -- after a place where a token ends, gaps are blanks and commas, as in the grammar of lines
 abbrev pub AreGapsAfter : List ℕ → ℕ → List Placed → Type 0

@@ -31,11 +31,11 @@ pub record Reading : Type 0 where
 
 -- a joined line, read as a rule
 abbrev pub reading_of : Profile → NumberedLine → Reading
-reading_of by l = record { line = l.number; text = l.text; read = draft_of by l.text }
+reading_of profile l = record { line = l.number; text = l.text; read = draft_of profile l.text }
 
 -- the joined lines of a file, read as rules
 abbrev pub readings_of : Profile → SourceFile → List Reading
-readings_of by file = map (reading_of by) (joined_lines by file.bytes).lines
+readings_of profile file = map (reading_of profile) (joined_lines profile file.bytes).lines
 
 -- a name, if there is one, without its place
 abbrev pub name_of : Option NamePlace → Option (List ℕ)
@@ -81,7 +81,7 @@ line_messages name line read l = map (message_at name line) (line_findings read 
 
 -- a rule, its jump dropped if no later rule has the label
 abbrev pub rule_at : Profile → List ℕ → ℕ → Draft → Landing → Rule
-rule_at by name line d l = record {
+rule_at profile name line d l = record {
   file = name;
   line = line;
   label = name_of d.label;
@@ -90,13 +90,13 @@ rule_at by name line d l = record {
   up = filter_map up_in (parts_in d.parts);
   acts = acts_of (parts_in d.parts);
   results = filter_map result_in (parts_in d.parts);
-  sets = sets_of by (parts_in d.parts);
+  sets = sets_of profile (parts_in d.parts);
 }
 
 -- the rule of a line, if it is one
 abbrev pub line_rules : Profile → List ℕ → ℕ → Result Draft (Spot MessageKind) → Landing → List Rule
-line_rules by name line (Ok d) l = rule_at by name line d l ∷ []
-line_rules by name line (Err wrong) l = []
+line_rules profile name line (Ok d) l = rule_at profile name line d l ∷ []
+line_rules profile name line (Err wrong) l = []
 
 -- the message about a line that is still open at its file's end
 abbrev pub open_messages : List ℕ → Option ℕ → List Message
@@ -105,27 +105,27 @@ open_messages name (Some line) = message name line OpenAtEnd [] ∷ []
 
 -- the rules of a file in order, none if it is given up because of a line
 abbrev pub rules_unless : Profile → SourceFile → Option ℕ → List Rule
-rules_unless by f (Some line) = []
-rules_unless by f None = flat_map (λ x. line_rules by f.name x.0.line x.0.read x.1) (landed (readings_of by f))
+rules_unless profile f (Some line) = []
+rules_unless profile f None = flat_map (λ x. line_rules profile f.name x.0.line x.0.read x.1) (landed (readings_of profile f))
 
 -- the rules of a file, in order
 abbrev pub file_rules : Profile → SourceFile → List Rule
-file_rules by f = rules_unless by f (abandoned by f.bytes)
+file_rules profile f = rules_unless profile f (abandoned profile f.bytes)
 
 -- the messages about a file by line, only one if it is given up because of a line
 abbrev pub messages_unless : Profile → SourceFile → Option ℕ → List Message
-messages_unless by f (Some line) = message f.name line FileAbandoned [] ∷ []
-messages_unless by f None =
-    flat_map (λ x. line_messages f.name x.0.line x.0.read x.1) (landed (readings_of by f))
-    ++ open_messages f.name (joined_lines by f.bytes).open_at
+messages_unless profile f (Some line) = message f.name line FileAbandoned [] ∷ []
+messages_unless profile f None =
+    flat_map (λ x. line_messages f.name x.0.line x.0.read x.1) (landed (readings_of profile f))
+    ++ open_messages f.name (joined_lines profile f.bytes).open_at
 
 -- the messages about a file, by line
 abbrev pub file_messages : Profile → SourceFile → List Message
-file_messages by f = messages_unless by f (abandoned by f.bytes)
+file_messages profile f = messages_unless profile f (abandoned profile f.bytes)
 
 -- the rules of files, and the messages about them
 unfoldable pub set_of_as : Profile → List SourceFile → ReadRules
-set_of_as by files = record { rules = flat_map (file_rules by) files; messages = flat_map (file_messages by) files }
+set_of_as profile files = record { rules = flat_map (file_rules profile) files; messages = flat_map (file_messages profile) files }
 
 -- the same by the manual
 abbrev pub set_of : List SourceFile → ReadRules

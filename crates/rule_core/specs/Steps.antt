@@ -21,8 +21,8 @@ number_of_both Udev earlier later = later
 
 -- a piece after the open one, as one piece
 abbrev pub onto : Profile → Option Piece → Piece → Piece
-onto by None p = p
-onto by (Some q) p = record { number = number_of_both by q.number p.number; text = q.text ++ p.text; continues = p.continues }
+onto profile None p = p
+onto profile (Some q) p = record { number = number_of_both profile q.number p.number; text = q.text ++ p.text; continues = p.continues }
 
 -- a piece as a joined line, or as none if it is empty
 abbrev pub line_of : Piece → List NumberedLine
@@ -30,7 +30,7 @@ line_of p = if is_empty p.text then [] else record { number = capped p.number; t
 
 -- one more piece: it continues the open one or begins another, and ends it unless it is itself continued
 abbrev pub after : Profile → SoFar → Piece → SoFar
-after by s p = if p.continues then sofar s.lines (Some (onto by s.pending p)) else sofar (s.lines ++ line_of (onto by s.pending p)) None
+after profile s p = if p.continues then sofar s.lines (Some (onto profile s.pending p)) else sofar (s.lines ++ line_of (onto profile s.pending p)) None
 
 -- the number with which an open piece is reported if the last line of its file has this number
 abbrev pub reported_open : Profile → ℕ → ℕ → ℕ
@@ -39,9 +39,9 @@ reported_open Udev last number = last
 
 -- the number with which the open piece is reported, if there is one
 abbrev pub open_at : Profile → ℕ → Option Piece → Option ℕ
-open_at by last None = None
-open_at by last (Some p) = Some (capped (reported_open by last p.number))
+open_at profile last None = None
+open_at profile last (Some p) = Some (capped (reported_open profile last p.number))
 
 -- no more pieces, in a file whose last line has this number
 abbrev pub ended : Profile → ℕ → SoFar → Joined
-ended by last s = joined_as s.lines (open_at by last s.pending)
+ended profile last s = joined_as s.lines (open_at profile last s.pending)

@@ -50,7 +50,7 @@ read_as_assign_kind Udev = AssignExpected
 
 -- a token's operator: its key
 abbrev pub operator_findings : Profile → Placed → List (Spot MessageKind)
-operator_findings by t = if is_read_as_assign t then key_spot (read_as_assign_kind by) t ∷ [] else []
+operator_findings profile t = if is_read_as_assign t then key_spot (read_as_assign_kind profile) t ∷ [] else []
 
 -- the bytes of a line from a place up to another
 abbrev pub between : ℕ → ℕ → List ℕ → List ℕ
@@ -58,11 +58,12 @@ between from to line = take (to - from) (drop from line)
 
 -- the gaps and tokens of a line after a place where a token ends; no token follows the last gap
 abbrev pub style_after : Profile → List ℕ → ℕ → List Placed → List (Spot MessageKind)
-style_after by line place [] = whole_gap CommaExpected place (drop place line)
-style_after by line place (t ∷ tokens) =
-    gap_findings by (between place t.span.start line) t ++ (operator_findings by t ++ style_after by line t.span.end tokens)
+style_after profile line place [] = whole_gap CommaExpected place (drop place line)
+style_after profile line place (t ∷ tokens) =
+    gap_findings profile (between place t.span.start line) t ++ (operator_findings profile t ++ style_after profile line t.span.end tokens)
 
 -- the gaps and tokens of a line, in the order of their places
 abbrev pub style_findings : Profile → List ℕ → List Placed → List (Spot MessageKind)
-style_findings by line [] = []
-style_findings by line (t ∷ tokens) = leading_findings by (between 0 t.span.start line) ++ (operator_findings by t ++ style_after by line t.span.end tokens)
+style_findings profile line [] = []
+style_findings profile line (t ∷ tokens) =
+    leading_findings profile (between 0 t.span.start line) ++ (operator_findings profile t ++ style_after profile line t.span.end tokens)

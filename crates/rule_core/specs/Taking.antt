@@ -27,10 +27,10 @@ pub record RuleNames : Type 0 where
 
 -- the names that tokens give
 abbrev pub names_given : Profile → List WrittenPart → RuleNames
-names_given by parts = record {
-  label = label_among by (filter_map label_at parts);
+names_given profile parts = record {
+  label = label_among profile (filter_map label_at parts);
   goto = first (filter_map goto_at parts);
-  findings = given_again_after by [] parts;
+  findings = given_again_after profile [] parts;
 }
 
 -- a name, or the one that was given before it
@@ -55,10 +55,10 @@ label_said Udev earlier name = lost_name earlier
 
 -- one more token, which is this part
 abbrev pub with_name : Profile → RuleNames → Placed → Part → RuleNames
-with_name by n t (part.Label name) =
-    record n { label = label_given by n.label (name_place t name); findings = n.findings ++ label_said by n.label (name_place t name) }
-with_name by n t (part.Goto name) = record n { goto = first_given n.goto (name_place t name); findings = n.findings ++ again n.goto (name_place t name) }
-with_name by n t _ = n
+with_name profile n t (part.Label name) =
+    record n { label = label_given profile n.label (name_place t name); findings = n.findings ++ label_said profile n.label (name_place t name) }
+with_name profile n t (part.Goto name) = record n { goto = first_given n.goto (name_place t name); findings = n.findings ++ again n.goto (name_place t name) }
+with_name profile n t _ = n
 
 -- parts by what they are for
 pub record Kinds : Type 0 where
@@ -80,7 +80,7 @@ kinds_of parts = record {
 
 -- the same, those that act and those that assign in the order of evaluation
 abbrev pub sorted_kinds : Profile → List Part → Kinds
-sorted_kinds by parts = record (kinds_of parts) { acts = acts_of parts; sets = sets_of by parts }
+sorted_kinds profile parts = record (kinds_of parts) { acts = acts_of parts; sets = sets_of profile parts }
 
 -- one more part
 abbrev pub with_kind : Kinds → Part → Kinds

@@ -89,7 +89,7 @@ turn_of_change Udev (change.Text to text) = 5 + turn_of_text to text.written
 turn_of_change Udev (change.Run type text) = 19 + turn_of_run type
 
 abbrev pub turn_of_assignment : Profile → Assignment → ℕ
-turn_of_assignment by a = turn_of_change by a.change
+turn_of_assignment profile a = turn_of_change profile a.change
 
 -- how many turns assignments have
 abbrev pub assignment_turns : Profile → ℕ
@@ -110,4 +110,4 @@ acts_by_turn acts = by_turn turn_of_act 8 acts
 
 -- assignments in the order of evaluation
 abbrev pub assignments_by_turn : Profile → List Assignment → List Assignment
-assignments_by_turn by assignments = by_turn (turn_of_assignment by) (assignment_turns by) assignments
+assignments_by_turn profile assignments = by_turn (turn_of_assignment profile) (assignment_turns profile) assignments

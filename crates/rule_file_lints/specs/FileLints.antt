@@ -90,4 +90,4 @@ lints_of_lines profile path kept lines = lints_of profile path kept (rules_from 
 
 -- the lints of a file, in the order of its rules
 unfoldable pub placed_lints : Profile → SourceFile → List (PlacedFinding Lint)
-placed_lints by f = lints_of by f.name (kept_lines f.bytes) (file_rules by f.bytes)
+placed_lints profile f = lints_of profile f.name (kept_lines f.bytes) (file_rules profile f.bytes)

@@ -29,9 +29,9 @@ rules_from start (x ∷ lines) = rule_before x.0.line start x.0.read x.1 (rules_
 
 -- the rules of a file, of which there are none if it is given up because of a line
 abbrev pub rules_unless : Profile → List ℕ → Option ℕ → List FileRule
-rules_unless by bytes None = rules_from 0 (landed (map (reading_of by) (joined_lines by bytes).lines))
-rules_unless by bytes (Some number) = []
+rules_unless profile bytes None = rules_from 0 (landed (map (reading_of profile) (joined_lines profile bytes).lines))
+rules_unless profile bytes (Some number) = []
 
 -- the rules of a file with these bytes
 abbrev pub file_rules : Profile → List ℕ → List FileRule
-file_rules by bytes = rules_unless by bytes (abandoned by bytes)
+file_rules profile bytes = rules_unless profile bytes (abandoned profile bytes)

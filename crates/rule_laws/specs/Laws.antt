@@ -15,10 +15,10 @@ abbrev pub well_landed : Landing
 well_landed = record { lost = false; unused = false }
 
 -- a rule is a joined line just as it is written, its jump and its label included, and there is no finding about it
-pub record IsWritten (by : Profile) (file : List ℕ) (l : NumberedLine) (r : Rule) : Type 0 where
+pub record IsWritten (profile : Profile) (file : List ℕ) (l : NumberedLine) (r : Rule) : Type 0 where
   pub draft : Draft
-  pub reads : draft_of by l.text ≡ Ok draft
-  pub is : r ≡ rule_at by file l.number draft well_landed
+  pub reads : draft_of profile l.text ≡ Ok draft
+  pub is : r ≡ rule_at profile file l.number draft well_landed
   pub quiet : draft.findings ≡ []
 
 -- the physical lines of a file, as they are written
@@ -31,15 +31,16 @@ runs_of f = runs (map piece_of (kept (written_lines f)))
 
 -- lines that are joined are empty, or one of these rules, with the number by which they are reported
 abbrev pub IsEmptyOrRule : Profile → List Rule → List Piece → Type 0
-IsEmptyOrRule by rules run = (run_text run ≡ []) ⊎ Contains (map (λ r. r.line) rules) (capped (run_number by run))
+IsEmptyOrRule profile rules run = (run_text run ≡ []) ⊎ Contains (map (λ r. r.line) rules) (capped (run_number profile run))
 
 -- a physical line of a file is a comment, or one of lines that are joined and are empty or a rule
 abbrev pub IsKnown : Profile → SourceFile → NumberedLine → Type 0
-IsKnown by f l = (is_comment (unindented l) ≡ true) ⊎ Any (λ run. Contains run (piece_of (unindented l)) × IsEmptyOrRule by (file_rules by f) run) (runs_of f)
+IsKnown profile f l = (is_comment (unindented l) ≡ true)
+    ⊎ Any (λ run. Contains run (piece_of (unindented l)) × IsEmptyOrRule profile (file_rules profile f) run) (runs_of f)
 
 -- All that is in a file is understood: its joined lines are its rules, none is open at its end, and each physical
 -- line is a rule or part of one, empty, or a comment.
-pub record IsUnderstood (by : Profile) (f : SourceFile) : Type 0 where
-  pub rules : AllZip (IsWritten by f.name) (joined_lines by f.bytes).lines (file_rules by f)
-  pub closed : (joined_lines by f.bytes).open_at ≡ None
-  pub lines : All (IsKnown by f) (written_lines f)
+pub record IsUnderstood (profile : Profile) (f : SourceFile) : Type 0 where
+  pub rules : AllZip (IsWritten profile f.name) (joined_lines profile f.bytes).lines (file_rules profile f)
+  pub closed : (joined_lines profile f.bytes).open_at ≡ None
+  pub lines : All (IsKnown profile f) (written_lines f)

@@ -32,41 +32,41 @@ abbrev pub HasLabel : List ℕ → List Rule → Type 0
 HasLabel name rules = Any (λ r. r.label ≡ Some name) rules
 
 -- a line is read as a rule, which has its jump if and only if a rule after it has the label
-pub record IsRule (by : Profile) (file : List ℕ) (l : NumberedLine) (r : Rule) (messages : List Message) (following : List Rule) : Type 0 where
+pub record IsRule (profile : Profile) (file : List ℕ) (l : NumberedLine) (r : Rule) (messages : List Message) (following : List Rule) : Type 0 where
   pub draft : Draft
   pub landing : Landing
-  pub reads : draft_of by l.text ≡ Ok draft
-  pub is : r ≡ rule_at by file l.number draft landing
+  pub reads : draft_of profile l.text ≡ Ok draft
+  pub is : r ≡ rule_at profile file l.number draft landing
   pub reported : messages ≡ map (message_at file l.number) (findings_of draft landing)
   pub jump : (name : List ℕ) → (r.goto ≡ Some name) ↔ ((name_of draft.goto ≡ Some name) × HasLabel name following)
 
 -- a line is not a rule, and the message says why
-pub record IsNoRule (by : Profile) (file : List ℕ) (l : NumberedLine) (m : Message) : Type 0 where
+pub record IsNoRule (profile : Profile) (file : List ℕ) (l : NumberedLine) (m : Message) : Type 0 where
   pub wrong : Spot MessageKind
-  pub reads : draft_of by l.text ≡ Err wrong
+  pub reads : draft_of profile l.text ≡ Err wrong
   pub is : m ≡ message_at file l.number wrong
 
 -- this becomes of a line that is before these rules
 abbrev pub Becomes : Profile → List ℕ → NumberedLine → LineOutcome → List Rule → Type 0
-Becomes by file l (one_rule r messages) following = IsRule by file l r messages following
-Becomes by file l (one_message m) following = IsNoRule by file l m
+Becomes profile file l (one_rule r messages) following = IsRule profile file l r messages following
+Becomes profile file l (one_message m) following = IsNoRule profile file l m
 
 -- these become of lines, line by line
 abbrev pub AllBecome : Profile → List ℕ → List NumberedLine → List LineOutcome → Type 0
-AllBecome by file [] [] = ⊤
-AllBecome by file [] (o ∷ outcomes) = ⊥
-AllBecome by file (l ∷ lines) [] = ⊥
-AllBecome by file (l ∷ lines) (o ∷ outcomes) = Becomes by file l o (flat_map rules_in outcomes) × AllBecome by file lines outcomes
+AllBecome profile file [] [] = ⊤
+AllBecome profile file [] (o ∷ outcomes) = ⊥
+AllBecome profile file (l ∷ lines) [] = ⊥
+AllBecome profile file (l ∷ lines) (o ∷ outcomes) = Becomes profile file l o (flat_map rules_in outcomes) × AllBecome profile file lines outcomes
 
 -- The rules and messages of a file that is not given up are those of its joined lines: each is one rule, or no rule
 -- and one message. What is still open at the end has a message of its own.
-pub record IsReadByLine (by : Profile) (f : SourceFile) : Type 0 where
+pub record IsReadByLine (profile : Profile) (f : SourceFile) : Type 0 where
   pub outcomes : List LineOutcome
-  pub each : AllBecome by f.name (joined_lines by f.bytes).lines outcomes
-  pub rules : file_rules by f ≡ flat_map rules_in outcomes
-  pub messages : file_messages by f ≡ flat_map messages_in outcomes ++ open_messages f.name (joined_lines by f.bytes).open_at
+  pub each : AllBecome profile f.name (joined_lines profile f.bytes).lines outcomes
+  pub rules : file_rules profile f ≡ flat_map rules_in outcomes
+  pub messages : file_messages profile f ≡ flat_map messages_in outcomes ++ open_messages f.name (joined_lines profile f.bytes).open_at
 
 -- A file that is given up because of a line has no rule, and one message.
-pub record IsAbandoned (by : Profile) (f : SourceFile) (line : ℕ) : Type 0 where
-  pub rules : file_rules by f ≡ []
-  pub messages : file_messages by f ≡ message f.name line FileAbandoned [] ∷ []
+pub record IsAbandoned (profile : Profile) (f : SourceFile) (line : ℕ) : Type 0 where
+  pub rules : file_rules profile f ≡ []
+  pub messages : file_messages profile f ≡ message f.name line FileAbandoned [] ∷ []

@@ -3,7 +3,7 @@ use Rattle.std.specs.Prelude.{ℕ, Bool, true, false, not, ◌&&◌, nat_eq, if�
 use Rattle.std.specs.Cmp.Lexicographic.{pointwise}
 use Rattle.file_messages.specs.declared.message.MessageKind.TheVariants.{UnknownKey, OperatorNotAllowed, WrongAttribute, BadValue}
 use Rattle.text_bytes.specs.declared.profile.Profile.{Profile}
-use Rattle.text_bytes.specs.declared.profile.Profile.TheVariants as profile
+use Rattle.text_bytes.specs.declared.profile.Profile.TheVariants.{Manual, Udev}
 use Rattle.rule_tokens.specs.Grammar.{Placed}
 use Rattle.rule_tokens.specs.Reading.{unquoted}
 use Rattle.rule_tokens.specs.declared.kinds.Operator.{Operator}
@@ -57,30 +57,30 @@ ignores_case quote.BlindEscaped = true
 
 -- the patterns that something is compared with
 unfoldable pub comparison : Profile → MatchOperator → Bool → List ℕ → Result Comparison Finding
-comparison by o blind text = made (λ c. record { operator = o; blind = blind; written = text; choice = c }) (read_choice by blind text)
+comparison profile o blind text = made (λ c. record { operator = o; blind = blind; written = text; choice = c }) (read_choice profile blind text)
 
 -- the value of an IMPORT of a type
 unfoldable pub import_by : Profile → ImportType → List ℕ → Result Import Finding
-import_by by import_of.Program text = made import.Program (read_template by text)
-import_by by import_of.Builtin text = made import.Builtin (read_template by text)
-import_by by import_of.File text = made import.File (read_template by text)
-import_by by import_of.Parent text = made (λ names. import.Parent names text) (read_choice by false text)
-import_by by import_of.Cmdline text = Ok (import.Cmdline text)
-import_by by import_of.Db text = Ok (import.Db text)
+import_by profile import_of.Program text = made import.Program (read_template profile text)
+import_by profile import_of.Builtin text = made import.Builtin (read_template profile text)
+import_by profile import_of.File text = made import.File (read_template profile text)
+import_by profile import_of.Parent text = made (λ names. import.Parent names text) (read_choice profile false text)
+import_by profile import_of.Cmdline text = Ok (import.Cmdline text)
+import_by profile import_of.Db text = Ok (import.Db text)
 
 -- the part of each role, by its value; whether case is ignored
 unfoldable pub part_by : Profile → Role → Bool → List ℕ → Result Part Finding
-part_by by (role.Plain key o) blind text = made (λ c. part.Plain (record { key = key; wanted = c })) (comparison by o blind text)
-part_by by (role.Up key o) blind text = made (λ c. part.Up (record { key = key; wanted = c })) (comparison by o blind text)
-part_by by (role.Result o) blind text = made part.Result (comparison by o blind text)
-part_by by (role.Test mask o) blind text = made (λ t. part.Act (record { operator = o; kind = act_kind.Test mask t })) (read_template by text)
-part_by by (role.Program o) blind text = made (λ t. part.Act (record { operator = o; kind = act_kind.Program t })) (read_template by text)
-part_by by (role.Import type o) blind text = made (λ i. part.Act (record { operator = o; kind = act_kind.Import i })) (import_by by type text)
-part_by by (role.Set target o) blind text = made (λ t. part.Set (record { operator = o; change = change.Text target t })) (read_template by text)
-part_by by (role.Run type o) blind text = made (λ t. part.Set (record { operator = o; change = change.Run type t })) (read_template by text)
-part_by by (role.Option o) blind text = made (λ known. part.Set (record { operator = o; change = change.Option known })) (read_option by text)
-part_by by role.Label blind text = made part.Label (read_name by text)
-part_by by role.Goto blind text = made part.Goto (read_name by text)
+part_by profile (role.Plain key o) blind text = made (λ c. part.Plain (record { key = key; wanted = c })) (comparison profile o blind text)
+part_by profile (role.Up key o) blind text = made (λ c. part.Up (record { key = key; wanted = c })) (comparison profile o blind text)
+part_by profile (role.Result o) blind text = made part.Result (comparison profile o blind text)
+part_by profile (role.Test mask o) blind text = made (λ t. part.Act (record { operator = o; kind = act_kind.Test mask t })) (read_template profile text)
+part_by profile (role.Program o) blind text = made (λ t. part.Act (record { operator = o; kind = act_kind.Program t })) (read_template profile text)
+part_by profile (role.Import type o) blind text = made (λ i. part.Act (record { operator = o; kind = act_kind.Import i })) (import_by profile type text)
+part_by profile (role.Set target o) blind text = made (λ t. part.Set (record { operator = o; change = change.Text target t })) (read_template profile text)
+part_by profile (role.Run type o) blind text = made (λ t. part.Set (record { operator = o; change = change.Run type t })) (read_template profile text)
+part_by profile (role.Option o) blind text = made (λ known. part.Set (record { operator = o; change = change.Option known })) (read_option profile text)
+part_by profile role.Label blind text = made part.Label (read_name profile text)
+part_by profile role.Goto blind text = made part.Goto (read_name profile text)
 
 -- whether a role is a match
 abbrev pub is_match : Role → Bool
@@ -116,8 +116,8 @@ udev_role r text = r
 
 -- the role as which a role is read
 abbrev pub role_as : Profile → Role → List ℕ → Role
-role_as profile.Manual r text = r
-role_as profile.Udev r text = udev_role r text
+role_as Manual r text = r
+role_as Udev r text = udev_role r text
 
 -- what is read, unless it is refused
 abbrev pub unless_refused : Option Finding → Result Part Finding → Result Part Finding
@@ -126,16 +126,17 @@ unless_refused (Some found) read = Err found
 
 -- the part of a role with a value; only matches take one that asks for its case to be ignored
 unfoldable pub value_part : Profile → Role → Bool → List ℕ → Result Part Finding
-value_part by r blind text =
-    if blind && not (is_match r) then Err (finding BadValue text) else unless_refused (refusal_by by r text) (part_by by (role_as by r text) blind text)
+value_part profile r blind text =
+    if blind && not (is_match r) then Err (finding BadValue text)
+    else unless_refused (refusal_by profile r text) (part_by profile (role_as profile r text) blind text)
 
 -- the part of a rule that a token is, or what is wrong with it: the first of the key, the attribute, the operator and the value
 unfoldable pub part_of : Profile → Placed → Result Part Finding
-part_of by t =
+part_of profile t =
     if_found (key_of t.parts.head.key) (finding UnknownKey t.parts.head.key) (λ key.
-    if_found (topic_of by key t.parts.head.attribute) (finding WrongAttribute t.parts.head.key) (λ about.
+    if_found (topic_of profile key t.parts.head.attribute) (finding WrongAttribute t.parts.head.key) (λ about.
     if_found (role_of about (operators.read_as key t.parts.head.operator)) (finding OperatorNotAllowed t.parts.head.key) (λ r.
-    value_part by r (ignores_case t.parts.quote) (meaning_of t))))
+    value_part profile r (ignores_case t.parts.quote) (meaning_of t))))
 
 -- whether an operator is read as `=` after a key, if that is known
 abbrev pub is_read_so : Operator → Option Key → Bool
@@ -154,5 +155,5 @@ IsReadAs _ written read = ⊥
 
 -- a part has the attribute of its token, or the one as which udev reads that
 abbrev pub IsWritten : Profile → Option (List ℕ) → Part → Type 0
-IsWritten profile.Manual attribute p = attribute_of_part p ≡ attribute
-IsWritten profile.Udev attribute p = (attribute_of_part p ≡ attribute) ⊎ IsReadAs (key_of_part p) attribute (attribute_of_part p)
+IsWritten Manual attribute p = attribute_of_part p ≡ attribute
+IsWritten Udev attribute p = (attribute_of_part p ≡ attribute) ⊎ IsReadAs (key_of_part p) attribute (attribute_of_part p)

@@ -2,7 +2,7 @@
 use Rattle.std.specs.Prelude.{ℕ, Bool, true, false, if◌then◌else◌, List, [], ◌∷◌, Option, Some, None, Result, Ok, Err}
 use Rattle.text_bytes.specs.Texts.{word_of}
 use Rattle.text_bytes.specs.declared.profile.Profile.{Profile}
-use Rattle.text_bytes.specs.declared.profile.Profile.TheVariants as profile
+use Rattle.text_bytes.specs.declared.profile.Profile.TheVariants.{Manual, Udev}
 use Rattle.file_messages.specs.declared.message.MessageKind.{MessageKind}
 use Rattle.file_messages.specs.declared.message.MessageKind.TheVariants.{BadValue, BadSubstitution, SetNotSupported}
 use Rattle.text_core.specs.Choices.{choice, choice_blind}
@@ -45,8 +45,8 @@ manual_choice blind text = if blind then as_choice text (choice_blind text) else
 
 -- patterns between bars, which udev reads as fnmatch(3) does; whether case is ignored
 unfoldable pub read_choice : Profile → Bool → List ℕ → Result (List (List Item)) Finding
-read_choice profile.Manual blind text = manual_choice blind text
-read_choice profile.Udev blind text = as_choice text (fnmatch_choice (reading_of blind) text)
+read_choice Manual blind text = manual_choice blind text
+read_choice Udev blind text = as_choice text (fnmatch_choice (reading_of blind) text)
 
 -- the pieces of a text, or what is wrong with it
 abbrev pub as_template : List ℕ → Result (List Piece) TemplateFault → Result Template Finding
@@ -55,7 +55,7 @@ as_template text (Err fault) = Err (finding BadSubstitution text)
 
 -- a text with substitutions
 unfoldable pub read_template : Profile → List ℕ → Result Template Finding
-read_template by text = as_template text (templates.pieces_as by text)
+read_template profile text = as_template text (templates.pieces_as profile text)
 
 -- an option, if there is one
 abbrev pub as_option : List ℕ → Option RuleOption → Result RuleOption Finding
@@ -64,7 +64,7 @@ as_option text None = Err (finding BadValue text)
 
 -- an option of OPTIONS
 unfoldable pub read_option : Profile → List ℕ → Result RuleOption Finding
-read_option by text = as_option text (option_of by text)
+read_option profile text = as_option text (option_of profile text)
 
 -- a name, which is not empty
 abbrev pub some_name : List ℕ → Result (List ℕ) Finding
@@ -73,5 +73,5 @@ some_name (b ∷ rest) = Ok (b ∷ rest)
 
 -- a name to jump to: udev also takes an empty one
 unfoldable pub read_name : Profile → List ℕ → Result (List ℕ) Finding
-read_name profile.Manual text = some_name text
-read_name profile.Udev text = Ok text
+read_name Manual text = some_name text
+read_name Udev text = Ok text

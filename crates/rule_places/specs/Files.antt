@@ -34,13 +34,14 @@ placed_lines kept lines open_at = placed_from kept 0 lines ++ open_findings kept
 
 -- the findings of the lines of a file with these bytes, by line
 abbrev pub findings_of_lines : Profile → List ℕ → List (PlacedFinding MessageKind)
-findings_of_lines by bytes = placed_lines (kept_lines bytes) (landed (map (reading_of by) (joined_lines by bytes).lines)) (joined_lines by bytes).open_at
+findings_of_lines profile bytes =
+    placed_lines (kept_lines bytes) (landed (map (reading_of profile) (joined_lines profile bytes).lines)) (joined_lines profile bytes).open_at
 
 -- the findings of a file that is given up because of the line with a number, or those of its lines
 abbrev pub findings_unless : Profile → List ℕ → Option ℕ → List (PlacedFinding MessageKind)
-findings_unless by bytes None = findings_of_lines by bytes
-findings_unless by bytes (Some number) = abandoned_findings bytes number
+findings_unless profile bytes None = findings_of_lines profile bytes
+findings_unless profile bytes (Some number) = abandoned_findings bytes number
 
 -- the findings of a file
 unfoldable pub placed_findings : Profile → SourceFile → List (PlacedFinding MessageKind)
-placed_findings by f = findings_unless by f.bytes (abandoned by f.bytes)
+placed_findings profile f = findings_unless profile f.bytes (abandoned profile f.bytes)

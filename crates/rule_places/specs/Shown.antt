@@ -38,4 +38,4 @@ IsShown bytes at = Shows (kept_from 0 (numbered_lines bytes)) (kept_text (number
 -- the joined lines of a file are what its kept lines give, one after another; after these only the bytes of an open
 -- line are left
 abbrev pub AreJoined : Profile → List ℕ → Type 0
-AreJoined by bytes = (left : List ℕ) × (kept_text (numbered_lines bytes) ≡ flat_map (λ l. l.text) (joined_lines by bytes).lines ++ left)
+AreJoined profile bytes = (left : List ℕ) × (kept_text (numbered_lines bytes) ≡ flat_map (λ l. l.text) (joined_lines profile bytes).lines ++ left)

@@ -6,7 +6,7 @@ use Rattle.std.specs.Cmp.Lexicographic.{pointwise}
 use Rattle.text_bytes.specs.Names.{digit_zero}
 use Rattle.text_bytes.specs.Texts.{is_empty, unindented}
 use Rattle.text_bytes.specs.declared.profile.Profile.{Profile}
-use Rattle.text_bytes.specs.declared.profile.Profile.TheVariants as profile
+use Rattle.text_bytes.specs.declared.profile.Profile.TheVariants.{Manual, Udev}
 use Rattle.rule_types.specs.declared.keys.Key.{Key}
 use Rattle.rule_types.specs.declared.keys.Key.TheVariants as key
 use Rattle.rule_types.specs.declared.types.ImportType.{ImportType}
@@ -32,9 +32,9 @@ is_constant name = pointwise nat_eq name (codes "arch") || pointwise nat_eq name
 
 -- the constant that an attribute names: udev knows two, the manual any
 abbrev pub constant_in : Profile → Option (List ℕ) → Option (List ℕ)
-constant_in profile.Manual a = name_in a
-constant_in profile.Udev None = None
-constant_in profile.Udev (Some name) = if is_constant name then Some name else None
+constant_in Manual a = name_in a
+constant_in Udev None = None
+constant_in Udev (Some name) = if is_constant name then Some name else None
 
 -- the byte `7`
 abbrev pub digit_seven : ℕ
@@ -67,23 +67,23 @@ mode_of text = if is_mode (unindented text) then Some (octal (unindented text)) 
 
 -- whether a text is a mask: for the manual by the number of its digits, for udev by what they write
 abbrev pub is_mask_as : Profile → List ℕ → Bool
-is_mask_as profile.Manual text = is_mask text
-is_mask_as profile.Udev text = is_some (mode_of text)
+is_mask_as Manual text = is_mask text
+is_mask_as Udev text = is_some (mode_of text)
 
 -- the mask that an attribute gives, or that there is none without an attribute; None for a wrong mask
 abbrev pub mask_in : Profile → Option (List ℕ) → Option (Option (List ℕ))
-mask_in by None = Some None
-mask_in by (Some text) = if is_mask_as by text then Some (Some text) else None
+mask_in profile None = Some None
+mask_in profile (Some text) = if is_mask_as profile text then Some (Some text) else None
 
 -- what is in the braces of TEST, as it is taken: for udev empty braces count as none
 abbrev pub mask_as : Profile → Option (List ℕ) → Option (List ℕ)
-mask_as profile.Manual a = a
-mask_as profile.Udev a = name_in a
+mask_as Manual a = a
+mask_as Udev a = name_in a
 
 -- what is in the braces of a key, as it is taken
 abbrev pub attribute_as : Profile → Key → Option (List ℕ) → Option (List ℕ)
-attribute_as by key.Test a = mask_as by a
-attribute_as by _ a = a
+attribute_as profile key.Test a = mask_as profile a
+attribute_as profile _ a = a
 
 -- the type of IMPORT that an attribute names
 abbrev pub import_in : Option (List ℕ) → Option ImportType
@@ -97,32 +97,32 @@ run_type_in (Some text) = option_map Some (run_type_of text)
 
 -- what a token with a key and an attribute is about; none if the key does not take that attribute
 unfoldable pub topic_of : Profile → Key → Option (List ℕ) → Option Topic
-topic_of by key.Action a = bare a topic.Action
-topic_of by key.Devpath a = bare a topic.Devpath
-topic_of by key.Kernel a = bare a topic.Kernel
-topic_of by key.Subsystem a = bare a topic.Subsystem
-topic_of by key.Driver a = bare a topic.Driver
-topic_of by key.Kernels a = bare a topic.Kernels
-topic_of by key.Subsystems a = bare a topic.Subsystems
-topic_of by key.Drivers a = bare a topic.Drivers
-topic_of by key.Tags a = bare a topic.Tags
-topic_of by key.Result a = bare a topic.Result
-topic_of by key.Attrs a = option_map topic.Attrs (name_in a)
-topic_of by key.Const a = option_map topic.Const (constant_in by a)
-topic_of by key.Test a = option_map topic.Test (mask_in by (mask_as by a))
-topic_of by key.Program a = bare a topic.Program
-topic_of by key.Import a = option_map topic.Import (import_in a)
-topic_of by key.Name a = bare a topic.Name
-topic_of by key.Symlink a = bare a topic.Symlink
-topic_of by key.Tag a = bare a topic.Tag
-topic_of by key.Attr a = option_map topic.Attr (name_in a)
-topic_of by key.Sysctl a = option_map topic.Sysctl (name_in a)
-topic_of by key.Env a = option_map topic.Env (name_in a)
-topic_of by key.Owner a = bare a topic.Owner
-topic_of by key.Group a = bare a topic.Group
-topic_of by key.Mode a = bare a topic.Mode
-topic_of by key.Seclabel a = option_map topic.Seclabel (name_in a)
-topic_of by key.Run a = option_map topic.Run (run_type_in a)
-topic_of by key.Options a = bare a topic.Options
-topic_of by key.Label a = bare a topic.Label
-topic_of by key.Goto a = bare a topic.Goto
+topic_of profile key.Action a = bare a topic.Action
+topic_of profile key.Devpath a = bare a topic.Devpath
+topic_of profile key.Kernel a = bare a topic.Kernel
+topic_of profile key.Subsystem a = bare a topic.Subsystem
+topic_of profile key.Driver a = bare a topic.Driver
+topic_of profile key.Kernels a = bare a topic.Kernels
+topic_of profile key.Subsystems a = bare a topic.Subsystems
+topic_of profile key.Drivers a = bare a topic.Drivers
+topic_of profile key.Tags a = bare a topic.Tags
+topic_of profile key.Result a = bare a topic.Result
+topic_of profile key.Attrs a = option_map topic.Attrs (name_in a)
+topic_of profile key.Const a = option_map topic.Const (constant_in profile a)
+topic_of profile key.Test a = option_map topic.Test (mask_in profile (mask_as profile a))
+topic_of profile key.Program a = bare a topic.Program
+topic_of profile key.Import a = option_map topic.Import (import_in a)
+topic_of profile key.Name a = bare a topic.Name
+topic_of profile key.Symlink a = bare a topic.Symlink
+topic_of profile key.Tag a = bare a topic.Tag
+topic_of profile key.Attr a = option_map topic.Attr (name_in a)
+topic_of profile key.Sysctl a = option_map topic.Sysctl (name_in a)
+topic_of profile key.Env a = option_map topic.Env (name_in a)
+topic_of profile key.Owner a = bare a topic.Owner
+topic_of profile key.Group a = bare a topic.Group
+topic_of profile key.Mode a = bare a topic.Mode
+topic_of profile key.Seclabel a = option_map topic.Seclabel (name_in a)
+topic_of profile key.Run a = option_map topic.Run (run_type_in a)
+topic_of profile key.Options a = bare a topic.Options
+topic_of profile key.Label a = bare a topic.Label
+topic_of profile key.Goto a = bare a topic.Goto

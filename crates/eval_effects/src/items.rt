@@ -121,7 +121,7 @@ pub(crate) fn push_named(
     }
 }
 
-/// The texts after so many.
+/// What follows the first `count` of some texts: nothing if there are no more than these.
 pub fn texts_after(texts: &[Vec<u8>], count: usize) -> &[Vec<u8>]
     ensures { result.now ≡ drop count texts.now }
 {

@@ -47,10 +47,8 @@ fn read_short(alloc: Global, profile: Profile, line: &[u8]) -> Result<Draft<'_>,
     ensures { MatchResult result (λ d. draft_with profile line.now (parts_of profile line.now (items_as profile line.now)) ≡ Ok d)
         (λ f. FaultOf f (draft_with profile line.now (parts_of profile line.now (items_as profile line.now)))) }
 {
-    match read_parts(alloc, profile, line) {
-        Ok(parts) => draft_with(alloc, profile, line, parts),
-        Err(fault) => Err(fault),
-    }
+    let parts = read_parts(alloc, profile, line)?;
+    draft_with(alloc, profile, line, parts)
 }
 
 /// The draft of tokens that were read; udev also drops a rule without effect.

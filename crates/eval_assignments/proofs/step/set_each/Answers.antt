@@ -10,7 +10,7 @@ use Rattle.eval_assignments.proofs.step.set_each.Goals as goal
 pub loop-assignment-preserved : goal.loop-assignment-preserved
 loop-assignment-preserved c =
     let rule : Rule = c.args.rule.now in
-    let sets : List Assignment = c.sets-assignment-items.result.now in
+    let sets : List Assignment = c.deref-assignment-items.result.now in
     let rest : List Assignment = drop (c.loop-assignment.assignment-index + 1) sets in
     let s : Scene = c.loop-assignment.scene in
     let made : c.set_open.new.scene ≡ set_step rule s c.assignment-item.result = c.in_ok-set_open.ensures.scene in

@@ -12,7 +12,7 @@ use Rattle.eval_effects.proofs.effects.set_all_and_report.Goals as goal
 pub loop-assignment-preserved : goal.loop-assignment-preserved
 loop-assignment-preserved c =
     let rule : Rule = c.args.rule.now in
-    let sets : List Assignment = c.sets-assignment-items.result.now in
+    let sets : List Assignment = c.deref-assignment-items.result.now in
     let rest : List Assignment = drop (c.loop-assignment.assignment-index + 1) sets in
     let s : Scene = c.loop-assignment.scene in
     let a : Assignment = c.assignment-item.result in

@@ -10,7 +10,7 @@ use Rattle.eval_rules.proofs.idle.note_each.Goals as goal
 pub loop-assignment-preserved : goal.loop-assignment-preserved
 loop-assignment-preserved c =
     let rule : Rule = c.args.rule.now in
-    let sets : List Assignment = c.sets-assignment-items.result.now in
+    let sets : List Assignment = c.deref-assignment-items.result.now in
     let rest : List Assignment = drop (c.loop-assignment.assignment-index + 1) sets in
     let s : Scene = c.loop-assignment.scene in
     let made : c.note_step.new.scene ≡ note_step rule s c.assignment-item.result = c.in_ok-note_step.ensures.scene in

@@ -73,13 +73,9 @@ is_axis_byte byte = (is_digit byte || byte == minus) || byte == colon
 abbrev pub is_axis : Text → Bool
 is_axis value = list_all is_axis_byte value && nat_le (count_by (λ b. b == colon) value) 4
 
--- a byte that names of keys have
-abbrev pub is_key_byte : ℕ → Bool
-is_key_byte byte = (is_digit byte || (nat_le 97 byte && nat_le byte 122)) || byte == underscore
-
 -- what can name a key, which the kernel's names do in small letters
 abbrev pub is_key_name : Text → Bool
-is_key_name text = list_all is_key_byte text
+is_key_name text = list_all (λ b. (is_digit b || (nat_le 97 b && nat_le b 122)) || b == underscore) text
 
 -- the name of a key, perhaps behind a `!`, or a `!` alone
 abbrev pub is_key : Text → Bool

@@ -1,5 +1,5 @@
 //! D1 to D4: a match beside the modaliases that its prefix can have.
-ghost use Rattle.std.specs.Prelude.{◌≡◌, drop, length, map, option_map};
+ghost use Rattle.std.specs.Prelude.{◌≡◌, map, option_map};
 ghost use Rattle.hwdb_lints.specs.Forms.{digit_step, ends_well, fault_in_form, fault_met, form_among, has_sign, has_swapped};
 ghost use Rattle.hwdb_lints.specs.Forms.{is_capital_digit, is_digit_place, is_hexadecimal, is_small_digit, is_swapped, is_unknown, is_written};
 ghost use Rattle.hwdb_lints.specs.Forms.{letter_step, match_fault, meeting_of, step_at};
@@ -195,15 +195,6 @@ fn is_unknown(text: &[u8]) -> bool
     !has_sign(word) && !is_among(&FIRST_WORDS, word)
 }
 
-/// What follows the first bytes of a text, as many as a prefix has.
-#[tactic(auto, using(std::proofs::lemmas::List::drop_min))]
-fn after_prefix<'t>(prefix: &[u8], text: &'t [u8]) -> &'t [u8]
-    ensures { result.now ≡ drop (length prefix.now) text.now }
-{
-    let (_, following) = text.split_at(prefix.len().min(text.len()));
-    following
-}
-
 /// Why no modalias of a form fits a match, by how it meets the form, whether a digit has the other case, and whether
 /// its end lacks what modaliases end in.
 fn fault_met(meeting: Meeting, swapped: bool, lacks_end: bool) -> Option<DatabaseLint>
@@ -219,10 +210,11 @@ fn fault_met(meeting: Meeting, swapped: bool, lacks_end: bool) -> Option<Databas
 }
 
 /// Why no modalias of a form fits a match.
+#[tactic(auto, using(std::proofs::lemmas::List::drop_min))]
 fn fault_in_form(form: &Modalias, text: &[u8]) -> Option<DatabaseLint>
     ensures { result ≡ fault_in_form (form.now.0.now, form.now.1.now, form.now.2) text.now }
 {
-    let following = after_prefix(form.0, text);
+    let (_, following) = text.split_at(form.0.len().min(text.len()));
     let swapped = has_swapped(form.1, following);
     fault_met(
         meeting_of(form.1, following),

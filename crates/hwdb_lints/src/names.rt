@@ -15,13 +15,6 @@ fn is_capital(byte: u8) -> bool
     b'A' <= byte && byte <= b'Z'
 }
 
-/// Whether a byte is a capital letter, a digit or `_`.
-fn is_name_byte(byte: u8) -> bool
-    ensures { result ≡ is_name_byte byte }
-{
-    is_capital(byte) || is_digit(byte) || byte == b'_'
-}
-
 /// Whether a text begins with a capital letter.
 fn begins_with_capital(text: &[u8]) -> bool
     ensures { result ≡ begins_with_capital text.now }
@@ -50,7 +43,7 @@ fn are_small_digits(text: &[u8]) -> bool
 fn has_name_bytes(text: &[u8]) -> bool
     ensures { result ≡ list_all is_name_byte text.now }
 {
-    text.iter().all(|byte| is_name_byte(*byte))
+    text.iter().all(|byte| is_capital(*byte) || is_digit(*byte) || *byte == b'_')
 }
 
 /// Whether a name is that of a property of its form: a key, an axis, or any other.

@@ -3,7 +3,7 @@ ghost use Rattle.std.specs.Prelude.{◌≡◌, ◌==◌, codes, count_by, map};
 ghost use Rattle.std.specs.List.{list_all};
 ghost use Rattle.text_bytes.specs.Numbers.{is_digit};
 ghost use Rattle.text_bytes.specs.Texts.{following};
-ghost use Rattle.hwdb_lints.specs.Values.{are_resolutions, is_axis, is_axis_byte, is_flag, is_integer, is_key, is_key_byte, is_key_name, is_layout};
+ghost use Rattle.hwdb_lints.specs.Values.{are_resolutions, is_axis, is_axis_byte, is_flag, is_integer, is_key, is_key_name, is_layout};
 ghost use Rattle.hwdb_lints.specs.Values.{is_layout_byte, is_matrix, is_matrix_byte, is_resolution_byte, takes, takes_coded, takes_own, without, word_among};
 
 use crate::properties::{CHOICES, Choice, FLAGS, INPUT_FLAGS, LAYOUTS, NUMBERS};
@@ -59,18 +59,11 @@ fn count_of(byte: u8, text: &[u8]) -> usize
     text.iter().filter(|other| **other == byte).count()
 }
 
-/// Whether a byte is one that resolutions have.
-fn is_resolution_byte(byte: u8) -> bool
-    ensures { result ≡ is_resolution_byte byte }
-{
-    is_digit(byte) || byte == b' ' || byte == b'*' || byte == b'@'
-}
-
 /// Whether each byte of a text is one of resolutions.
 fn has_resolution_bytes(text: &[u8]) -> bool
     ensures { result ≡ list_all is_resolution_byte text.now }
 {
-    text.iter().all(|byte| is_resolution_byte(*byte))
+    text.iter().all(|byte| is_digit(*byte) || *byte == b' ' || *byte == b'*' || *byte == b'@')
 }
 
 /// Whether a value is resolutions, of which at most one has a star.
@@ -107,18 +100,12 @@ fn is_matrix(value: &[u8]) -> bool
     has_matrix_bytes(value) && count_of(b';', value) == 2 && count_of(b',', value) == 6
 }
 
-/// Whether a byte is one that the range of an axis has.
-fn is_axis_byte(byte: u8) -> bool
-    ensures { result ≡ is_axis_byte byte }
-{
-    is_digit(byte) || byte == b'-' || byte == b':'
-}
-
 /// Whether each byte of a text is one of an axis.
 fn has_axis_bytes(text: &[u8]) -> bool
     ensures { result ≡ list_all is_axis_byte text.now }
 {
-    text.iter().all(|byte| is_axis_byte(*byte))
+    text.iter()
+        .all(|byte| is_digit(*byte) || *byte == b'-' || *byte == b':')
 }
 
 /// Whether a value is at most five numbers of an axis.
@@ -128,18 +115,11 @@ fn is_axis(value: &[u8]) -> bool
     has_axis_bytes(value) && count_of(b':', value) <= 4
 }
 
-/// Whether a byte is one that names of keys have.
-fn is_key_byte(byte: u8) -> bool
-    ensures { result ≡ is_key_byte byte }
-{
-    is_digit(byte) || (b'a' <= byte && byte <= b'z') || byte == b'_'
-}
-
 /// Whether a text can name a key.
 fn is_key_name(text: &[u8]) -> bool
     ensures { result ≡ is_key_name text.now }
 {
-    text.iter().all(|byte| is_key_byte(*byte))
+    text.iter().all(|byte| is_digit(*byte) || (b'a' <= *byte && *byte <= b'z') || *byte == b'_')
 }
 
 /// Whether a value is the name of a key, perhaps behind a `!`, or a `!` alone.

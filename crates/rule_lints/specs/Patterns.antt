@@ -100,14 +100,10 @@ abbrev pub looks_at_all : Part → Bool
 looks_at_all (part.Plain m) = is_always_there m.key
 looks_at_all _ = false
 
--- whether a comparison is by `==` and holds for any text
-abbrev pub is_met_by_all : Comparison → Bool
-is_met_by_all wanted = is_equal wanted.operator && list_any take_all wanted.choice
-
--- whether there is a comparison, and it holds for any text
+-- whether there is a comparison, it is by `==`, and it holds for any text
 abbrev pub some_met_by_all : Option Comparison → Bool
 some_met_by_all None = false
-some_met_by_all (Some wanted) = is_met_by_all wanted
+some_met_by_all (Some wanted) = is_equal wanted.operator && list_any take_all wanted.choice
 
 -- whether W12 is reported for a part
 abbrev pub always_holds : Part → Bool

@@ -1,8 +1,8 @@
 //! W2 and W3: the commands of a rule, and what in them is meant for a shell.
-ghost use Rattle.std.specs.Prelude.{◌≡◌, ◌≤◌, ◌||◌, length, not, option_map};
+ghost use Rattle.std.specs.Prelude.{◌≡◌, ◌≤◌, length, not, option_map};
 ghost use Rattle.std.specs.List.{prefix_len};
 ghost use Rattle.text_bytes.specs.Names.{is_blank};
-ghost use Rattle.rule_lints.specs.Commands.{asked_command, command_of, first_word, forbidden_command, is_bare_script, is_quote, is_redirected};
+ghost use Rattle.rule_lints.specs.Commands.{asked_command, command_of, first_word, forbidden_command, is_bare_script, is_redirected};
 ghost use Rattle.rule_lints.specs.Commands.{is_shell_sign, is_shell_word, is_word_end, has_shell_sign};
 ghost use Rattle.rule_lints.specs.Commands.{open_after, program_name, relative_program, run_command, shell_command};
 
@@ -76,18 +76,12 @@ pub(crate) fn shell_command(part: &Part) -> Option<&[u8]>
     ensures { option_map (λ text. text.now) result ≡ shell_command part.now }
 {
     let command = command_of(part)?;
-    if needs_shell(command) && !is_among(&SHELLS, program_name(command)) {
+    let needs_shell = has_shell_sign(command) || is_shell_word(first_word(command));
+    if needs_shell && !is_among(&SHELLS, program_name(command)) {
         Some(command)
     } else {
         None
     }
-}
-
-/// Whether a command has a sign of the shell, or begins as only one of the shell does.
-fn needs_shell(command: &[u8]) -> bool
-    ensures { result ≡ (has_shell_sign command.now || is_shell_word (first_word command.now)) }
-{
-    has_shell_sign(command) || is_shell_word(first_word(command))
 }
 
 /// Whether a word is what only a shell reads as a first one: a home folder, or a variable that is set.
@@ -191,18 +185,11 @@ fn open_after(opened: Option<u8>, byte: u8) -> Option<u8>
     ensures { result ≡ open_after opened byte }
 {
     match opened {
-        None if is_quote(byte) => Some(byte),
+        None if byte == b'\'' || byte == b'"' => Some(byte),
         None => None,
         Some(quote) if byte == quote => None,
         Some(quote) => Some(quote),
     }
-}
-
-/// Whether a byte begins and ends a quoted part.
-fn is_quote(byte: u8) -> bool
-    ensures { result ≡ is_quote byte }
-{
-    byte == b'\'' || byte == b'"'
 }
 
 /// Whether a byte is a sign of the shell before this text.

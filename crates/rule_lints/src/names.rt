@@ -2,7 +2,7 @@
 ghost use Rattle.std.specs.Prelude.{◌≡◌, codes, nat_eq, option_map};
 ghost use Rattle.std.specs.List.{list_any, slice_split, starts_with};
 ghost use Rattle.text_bytes.specs.Names.{is_blank};
-ghost use Rattle.rule_lints.specs.Names.{dev_link, excludes_net, is_outside_net, is_subsystem, link_given, links_by, links_in, meets};
+ghost use Rattle.rule_lints.specs.Names.{dev_link, excludes_net, is_outside_net, link_given, links_by, links_in, meets};
 ghost use Rattle.rule_lints.specs.Names.{name_given, name_in, quoted_name};
 
 use crate::parts::change_of;
@@ -23,16 +23,10 @@ fn excludes_net(part: &Part) -> bool
     ensures { result ≡ excludes_net part.now }
 {
     match part {
-        Part::Plain(asked) => is_subsystem(&asked.key) && !meets(b"net", &asked.wanted),
+        Part::Plain(asked) => matches!(asked.key, PlainKey::Subsystem)
+            && !meets(b"net", &asked.wanted),
         _ => false,
     }
-}
-
-/// Whether a match looks at SUBSYSTEM.
-fn is_subsystem(key: &PlainKey) -> bool
-    ensures { result ≡ is_subsystem key.now }
-{
-    matches!(key, PlainKey::Subsystem)
 }
 
 /// Whether a comparison holds for a text.

@@ -1,14 +1,12 @@
 //! W11, W12 and W14: patterns that are written as regular expressions, matches that always hold, and what is no pattern
 //! for udev.
-ghost use Rattle.std.specs.Prelude.{◌≡◌, ◌&&◌, ◌||◌, ◌==◌, option_map};
-ghost use Rattle.text_bytes.specs.Names.{backslash, close_bracket, plus};
-ghost use Rattle.text_bytes.specs.Texts.{begins_with};
+ghost use Rattle.std.specs.Prelude.{◌≡◌, option_map};
 ghost use Rattle.std.specs.List.{list_all, list_any, slice_split};
 ghost use Rattle.text_core.specs.Choices.{is_bar};
 ghost use Rattle.rule_lints.specs.LetterCase.{is_many};
 ghost use Rattle.rule_lints.specs.Patterns.{always_holds, begins_with_class, expression, expression_in, has_braces, has_class, has_close_parenthesis};
-ghost use Rattle.rule_lints.specs.Patterns.{has_open_parenthesis, is_always_there, is_expression, is_met_by_all, looks_at_all};
-ghost use Rattle.rule_lints.specs.Patterns.{has_no_pattern, is_no_pattern, is_of_members, is_of_tags, is_some_something, is_something};
+ghost use Rattle.rule_lints.specs.Patterns.{has_open_parenthesis, is_always_there, is_expression, looks_at_all};
+ghost use Rattle.rule_lints.specs.Patterns.{has_no_pattern, is_no_pattern, is_of_members, is_some_something, is_something};
 ghost use Rattle.rule_lints.specs.Patterns.{some_met_by_all, take_all, value_of_act};
 
 use crate::letter_case::is_many;
@@ -44,7 +42,7 @@ fn opens_group(written: &[u8]) -> bool
 {
     written
         .split(|byte| *byte == b'|')
-        .any(|text| has_open_parenthesis(text))
+        .any(|text| has_byte(b'(', rest_after_last(b')', text)))
 }
 
 /// Whether a text between bars closes a group in parentheses.
@@ -53,7 +51,7 @@ fn closes_group(written: &[u8]) -> bool
 {
     written
         .split(|byte| *byte == b'|')
-        .any(|text| has_close_parenthesis(text))
+        .any(|text| has_byte(b')', before_first(b'(', text)))
 }
 
 /// Whether a text between bars is written as a regular expression or with braces.
@@ -82,20 +80,14 @@ fn has_class(text: &[u8]) -> bool
 {
     let mut rest = text;
     while let Some((byte, following)) = rest.split_first() {
-        if is_class(*byte, following) {
+        if (*byte == b'\\' && begins_with_class(following))
+            || (*byte == b']' && begins_with(b'+', following))
+        {
             return true;
         }
         rest = following;
     }
     false
-}
-
-/// Whether a byte and the text after it are such a thing.
-fn is_class(byte: u8, following: &[u8]) -> bool
-    ensures { result ≡ ((byte == backslash && begins_with_class following.now) || (byte == close_bracket && begins_with plus following.now)) }
-{
-    (byte == b'\\' && begins_with_class(following))
-        || (byte == b']' && begins_with(b'+', following))
 }
 
 /// Whether a text begins with the letter of a class.
@@ -106,20 +98,6 @@ fn begins_with_class(text: &[u8]) -> bool
         None => false,
         Some(byte) => *byte == b'd' || *byte == b'w' || *byte == b's',
     }
-}
-
-/// Whether a text has a `(` that no `)` follows.
-fn has_open_parenthesis(text: &[u8]) -> bool
-    ensures { result ≡ has_open_parenthesis text.now }
-{
-    has_byte(b'(', rest_after_last(b')', text))
-}
-
-/// Whether a text has a `)` that no `(` precedes.
-fn has_close_parenthesis(text: &[u8]) -> bool
-    ensures { result ≡ has_close_parenthesis text.now }
-{
-    has_byte(b')', before_first(b'(', text))
 }
 
 /// Whether a text has a `{`, after it a `,`, and after that a `}`.
@@ -161,21 +139,14 @@ fn is_always_there(key: &PlainKey) -> bool
     )
 }
 
-/// Whether there is a comparison, and it holds for any text.
+/// Whether there is a comparison, it is by `==`, and it holds for any text.
 fn some_met_by_all(wanted: Option<&Comparison>) -> bool
     ensures { result ≡ some_met_by_all (option_map (λ c. c.now) wanted.entry) }
 {
     match wanted {
         None => false,
-        Some(wanted) => is_met_by_all(wanted),
+        Some(wanted) => is_equal(wanted.operator) && some_take_all(wanted.choice.parts()),
     }
-}
-
-/// Whether a comparison is by `==` and holds for any text.
-fn is_met_by_all(wanted: &Comparison) -> bool
-    ensures { result ≡ is_met_by_all wanted.now }
-{
-    is_equal(wanted.operator) && some_take_all(wanted.choice.parts())
 }
 
 /// Whether one of the patterns takes any text.
@@ -219,7 +190,8 @@ fn has_no_pattern(part: &Part) -> bool
         Part::Plain(asked) => {
             is_of_members(&asked.key) && is_something(asked.wanted.written.as_slice())
         }
-        Part::Up(asked) => is_of_tags(&asked.key) && is_something(asked.wanted.written.as_slice()),
+        Part::Up(asked) => matches!(asked.key, UpKey::Tags)
+            && is_something(asked.wanted.written.as_slice()),
         Part::Act(act) => is_some_something(value_of_act(&act.kind)),
         _ => false,
     }
@@ -230,13 +202,6 @@ fn is_of_members(key: &PlainKey) -> bool
     ensures { result ≡ is_of_members key.now }
 {
     matches!(key, PlainKey::Symlink | PlainKey::Tag)
-}
-
-/// The same for a match of one device.
-fn is_of_tags(key: &UpKey) -> bool
-    ensures { result ≡ is_of_tags key.now }
-{
-    matches!(key, UpKey::Tags)
 }
 
 /// The value of what acts that a pattern, or a file, may be meant by.

@@ -1,7 +1,7 @@
 -- What the name of a folder in the path of a device says that it is, by the names that the kernel gives its devices.
-use Rattle.std.specs.Prelude.{ℕ, ◌==◌, ◌&&◌, ◌||◌, not, nat_le, Bool, false, is_some, length, Option, Some, None, if◌then◌else◌, codes}
+use Rattle.std.specs.Prelude.{ℕ, ◌==◌, ◌&&◌, ◌||◌, nat_le, Bool, false, is_some, length, Option, Some, None, if◌then◌else◌, codes}
 use Rattle.std.specs.Char.{is_ascii_hexdigit}
-use Rattle.std.specs.List.{list_all, list_any, slice_split}
+use Rattle.std.specs.List.{list_all, slice_split}
 use Rattle.std.specs.Option.{option_map_or}
 use Rattle.text_bytes.specs.Names.{colon, dot, minus}
 use Rattle.text_bytes.specs.Numbers.{is_decimal}
@@ -19,17 +19,9 @@ is_numbered start text = option_map_or is_decimal (following start text) false
 abbrev pub are_two : (byte : ℕ) → Text → Bool
 are_two byte text = option_map_or (λ cut. is_decimal cut.0 && is_decimal cut.1) (split_once byte text) false
 
--- whether a byte is a dot
-abbrev pub is_dot : ℕ → Bool
-is_dot b = b == dot
-
--- whether a text is no number
-abbrev pub is_no_number : Text → Bool
-is_no_number text = not (is_decimal text)
-
 -- whether a text is ports: numbers with a dot between each two
 abbrev pub are_ports : Text → Bool
-are_ports text = not (list_any is_no_number (slice_split is_dot text))
+are_ports text = list_all is_decimal (slice_split (λ b. b == dot) text)
 
 -- whether a name is that of a USB device at a port: `BUS-PORTS`, numbers, with a dot between the ports
 unfoldable pub is_at_port : (name : Text) → Bool

@@ -1,8 +1,7 @@
 //! What the name of a folder in the path of a device says that it is.
 ghost use Rattle.std.specs.Prelude.{◌≡◌};
-ghost use Rattle.std.specs.List.{list_any, slice_split};
-ghost use Rattle.builtin_chains.specs.Kinds.{are_digits, are_ports, are_two, is_at_port, is_dot, is_function, is_in_slot};
-ghost use Rattle.builtin_chains.specs.Kinds.{is_interface, is_no_number, is_numbered, is_nvme, is_on_bus, is_place, is_target, is_usb_device, kind_of};
+ghost use Rattle.builtin_chains.specs.Kinds.{are_digits, are_ports, are_two, is_at_port, is_function, is_in_slot};
+ghost use Rattle.builtin_chains.specs.Kinds.{is_interface, is_numbered, is_nvme, is_on_bus, is_place, is_target, is_usb_device, kind_of};
 
 use builtin_devices::address_of;
 use text_bytes::{following, is_decimal, is_hexadecimal, split_once};
@@ -50,26 +49,12 @@ fn are_two(between: u8, text: &[u8]) -> bool
     }
 }
 
-/// Whether a text is no number.
-fn is_no_number(text: &[u8]) -> bool
-    ensures { result ≡ is_no_number text.now }
-{
-    !is_decimal(text)
-}
-
-/// Whether a part of a text, between dots, is no number.
-fn has_no_number(text: &[u8]) -> bool
-    ensures { result ≡ list_any is_no_number (slice_split is_dot text.now) }
-{
-    text.split(|byte| *byte == b'.')
-        .any(|part| is_no_number(part))
-}
-
 /// Whether a text is ports: numbers with a dot between each two.
 fn are_ports(text: &[u8]) -> bool
     ensures { result ≡ are_ports text.now }
 {
-    !has_no_number(text)
+    text.split(|byte| *byte == b'.')
+        .all(|part| is_decimal(part))
 }
 
 /// Whether a name is that of a USB device at a port.

@@ -105,6 +105,21 @@ fn need_above_each(
 }
 
 /// The names of those of the devices that the event's own path shows, and those of devices outside of its chain.
+fn missing_among(
+    alloc: Global,
+    devices: &Devices<'_>,
+    asker: Asker,
+) -> Result<OwnedTexts, AllocError>
+    ensures { IfOk result (λ needs. needs ≡ with_texts [] (missing_everywhere devices.now asker)) }
+{
+    let mut needs = OwnedTexts::new(alloc);
+    let path = devices.event().device().path();
+    need_above(alloc, devices, asker, path, &mut needs)?;
+    need_above_each(alloc, devices, asker, devices.described(), &mut needs)?;
+    Ok(needs)
+}
+
+/// The same for an event, whose devices are found first.
 fn missing_everywhere(
     alloc: Global,
     event: &Event<'_>,
@@ -113,10 +128,7 @@ fn missing_everywhere(
     ensures { IfOk result (λ needs. needs ≡ with_texts [] (missing_everywhere event.now asker)) }
 {
     let devices = Devices::new(alloc, event)?;
-    let mut needs = OwnedTexts::new(alloc);
-    need_above(alloc, &devices, asker, event.device().path(), &mut needs)?;
-    need_above_each(alloc, &devices, asker, devices.described(), &mut needs)?;
-    Ok(needs)
+    missing_among(alloc, &devices, asker)
 }
 
 /// The names of those that `usb_id` asks for, of the devices that the event's own path shows.
@@ -186,11 +198,11 @@ pub fn input_needs(alloc: Global, event: &Event<'_>) -> Result<OwnedTexts, Alloc
     ensures { IfOk result (λ needs. needs ≡ input_needs event.now) }
 {
     let device = event.device();
-    let mut needs = OwnedTexts::new(alloc);
     if attribute(device, b"capabilities/ev").is_some() {
-        return Ok(needs);
+        return Ok(OwnedTexts::new(alloc));
     }
     let devices = Devices::new(alloc, event)?;
+    let mut needs = OwnedTexts::new(alloc);
     need_above(alloc, &devices, Asker::InputId, device.path(), &mut needs)?;
     Ok(needs)
 }

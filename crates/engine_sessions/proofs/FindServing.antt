@@ -6,14 +6,13 @@ use Rattle.device_core.specs.Values.{EventValue}
 use Rattle.device_core.specs.declared.faults.BlockFault.{BlockFault}
 use Rattle.engine_ends.specs.Sinks.{BreaksOff, HandsOn, SinkState}
 use Rattle.engine_ends.specs.Streams.{Streams, outputs}
-use Rattle.engine_ends.specs.Delivery.{IsWhole, ReportsFailure, out_of_memory, write_failed}
+use Rattle.engine_ends.specs.Delivery.{IsWhole, ReportsFailure, out_of_memory}
 use Rattle.engine_sessions.specs.Turns.{joined, say_something}
-use Rattle.engine_sessions.specs.BlockFaults.{block_said}
 use Rattle.engine_sessions.specs.Answers.{answers_of}
 use Rattle.engine_sessions.specs.Inputs.{AnswersInput, devices_of}
 use Rattle.engine_sessions.specs.Outcomes.{answered_until, input_outcome}
-use Rattle.engine_sessions.specs.Serves.{Serves, StopsBefore, Concludes, WritesOut, read_failed}
-use Rattle.engine_sessions.specs.Findings.{ConcludesFinding, FindsAll, found}
+use Rattle.engine_sessions.specs.Serves.{Serves, SaysFault, StopsBefore, Concludes, WritesOut, fault_said}
+use Rattle.engine_sessions.specs.Findings.{FindsAll, found, status_found}
 use Rattle.engine_sessions.specs.declared.session.SessionFault.TheVariants.{Block, Memory, Ended}
 use Rattle.engine_sessions.specs.declared.turning.TurnFault.{TurnFault}
 use Rattle.engine_sessions.specs.declared.turning.TurnFault.TheVariants.{Read, Write, Session}
@@ -52,9 +51,20 @@ serves_still for_people messages answer status before now n s = record {
   statuses = s.statuses;
 }
 
-pub reports_some : (line : Text) (wanted status : ℕ) (after now : SinkState) → 0 < wanted → ReportsFailure line wanted status after now → status ≡ 0 → ⊥
+reports_some : (line : Text) (wanted status : ℕ) (after now : SinkState) → 0 < wanted → ReportsFailure line wanted status after now → status ≡ 0 → ⊥
 reports_some line wanted status after now h (inl p) e = absurd (omega (arith, h, p.0, e))
 reports_some line wanted status after now h (inr p) e = absurd (omega (arith, p.0, e))
+
+-- no fault has the status 0
+fault_some : (for_people : Bool) (fault : TurnFault) → 0 < (fault_said for_people fault).1
+fault_some for_people Read = omega arith
+fault_some for_people Write = omega arith
+fault_some for_people (Session (Block number fault)) = omega arith
+fault_some for_people (Session Memory) = omega arith
+fault_some for_people (Session Ended) = omega arith
+
+pub says_some : (for_people : Bool) (fault : TurnFault) (status : ℕ) (after now : SinkState) → SaysFault for_people fault status after now → status ≡ 0 → ⊥
+says_some for_people fault status after now c = let said = fault_said for_people fault in reports_some said.0 said.1 status after now (fault_some for_people fault) c
 
 pub stops_some : (messages : Text) (status : ℕ) (before now : Streams) → StopsBefore messages status before now → status ≡ 0 → ⊥
 stops_some messages status before now s e = by s.reports
@@ -72,7 +82,7 @@ low true status e = omega (arith, e)
 low false status e = omega (arith, e)
 
 module _ (for_people : Bool) (messages : Text) (answer : EventValue → Text) (status : ℕ) (before now : Streams) (after : SinkState) (says : HandsOn before.err messages after) where
-  found_well : (t : AnswersInput answer (Ok tt) (devices_of before) (devices_of now)) → ConcludesFinding for_people (Ok tt) t.sent status after now.err → Serves (λ text. found (input_outcome for_people messages answer text)) status before now
+  found_well : (t : AnswersInput answer (Ok tt) (devices_of before) (devices_of now)) → Concludes for_people (status_found t.sent) (Ok tt) status after now.err → Serves (λ text. found (input_outcome for_people messages answer text)) status before now
   found_well t c =
       let is = ap found (outcome_well for_people messages answer (joined t.read) t.sent t.ends.answers) in
       let few : status ≤ 1 = low (say_something t.sent) status c.0 in
@@ -91,16 +101,12 @@ module _ (for_people : Bool) (messages : Text) (answer : EventValue → Text) (s
         statuses = omega (arith, few);
       }
 
-  found_fault : (fault : TurnFault) → AnswersInput answer (Err fault) (devices_of before) (devices_of now) → Concludes for_people (Err fault) status after now.err → (status ≡ 0 → ⊥) → Serves (λ text. found (input_outcome for_people messages answer text)) status before now
-  found_fault fault t c n = serves_still for_people messages answer status before now n (answers_serve for_people messages answer status before now (inr (record { after = after; says = says; end = Err fault; answers = t; concludes = c })))
+  found_fault : (fault : TurnFault) → AnswersInput answer (Err fault) (devices_of before) (devices_of now) → SaysFault for_people fault status after now.err → Serves (λ text. found (input_outcome for_people messages answer text)) status before now
+  found_fault fault t c = serves_still for_people messages answer status before now (says_some for_people fault status after now.err c) (answers_serve for_people messages answer status before now (inr (record { after = after; says = says; end = Err fault; answers = t; concludes = c })))
 
-  found_by : (end : Result (Unit {0}) TurnFault) (t : AnswersInput answer end (devices_of before) (devices_of now)) → ConcludesFinding for_people end t.sent status after now.err → Serves (λ text. found (input_outcome for_people messages answer text)) status before now
+  found_by : (end : Result (Unit {0}) TurnFault) (t : AnswersInput answer end (devices_of before) (devices_of now)) → Concludes for_people (status_found t.sent) end status after now.err → Serves (λ text. found (input_outcome for_people messages answer text)) status before now
   found_by (Ok done) t c = found_well t c
-  found_by (Err Read) t c = found_fault Read t c (reports_some read_failed 3 status after now.err (omega arith) c)
-  found_by (Err Write) t c = found_fault Write t c (reports_some write_failed 3 status after now.err (omega arith) c)
-  found_by (Err (Session (Block number fault))) t c = found_fault (Session (Block number fault)) t c (reports_some (block_said for_people number fault) 1 status after now.err (omega arith) c)
-  found_by (Err (Session Memory)) t c = found_fault (Session Memory) t c (reports_some out_of_memory 4 status after now.err (omega arith) c)
-  found_by (Err (Session Ended)) t c = absurd c
+  found_by (Err fault) t c = found_fault fault t c
 
 pub finds_serve : (for_people : Bool) (messages : Text) (answer : EventValue → Text) (status : ℕ) (before now : Streams) → FindsAll for_people messages answer status before now → Serves (λ text. found (input_outcome for_people messages answer text)) status before now
 finds_serve for_people messages answer status before now (inl s) = serves_still for_people messages answer status before now (stops_some messages status before now s) (answers_serve for_people messages answer status before now (inl s))

@@ -9,15 +9,12 @@ use Rattle.engine_ends.specs.Sinks.{BreaksOff, HandsOn, SinkState}
 use Rattle.engine_ends.specs.Streams.{Streams, outputs}
 use Rattle.engine_ends.specs.Delivery.{IsWhole, ReportsFailure, RunOutcome, out_of_memory, write_failed}
 use Rattle.engine_sessions.specs.Turns.{Sends, joined}
-use Rattle.engine_sessions.specs.BlockFaults.{block_said}
 use Rattle.engine_sessions.specs.Inputs.{AnswersInput, Devices, devices_of}
 use Rattle.engine_sessions.specs.Outcomes.{input_outcome}
-use Rattle.engine_sessions.specs.Serves.{Concludes, IsCutShort, ReportsFailures, Serves, WritesOut, read_failed}
+use Rattle.engine_sessions.specs.Serves.{IsCutShort, ReportsFailures, SaysFault, Serves, WritesOut}
 use Rattle.engine_sessions.specs.Tallies.{ConcludesSaying, SaysAll, SaysLast, with_said}
-use Rattle.engine_sessions.specs.declared.session.SessionFault.TheVariants.{Block, Memory, Ended}
 use Rattle.engine_sessions.specs.declared.turning.TurnFault.{TurnFault}
-use Rattle.engine_sessions.specs.declared.turning.TurnFault.TheVariants.{Read, Write, Session}
-use Rattle.engine_sessions.proofs.FindServing.{reports_some, stops_some}
+use Rattle.engine_sessions.proofs.FindServing.{says_some, stops_some}
 use Rattle.engine_sessions.proofs.SendLemmas.{hands_after, sends_taken, sends_well}
 use Rattle.engine_sessions.proofs.Serving.{answers_serve, at_memory, begun-first, begun-following, begun-taken, cut_by, memory_most, memory_status, none_is, not_four, not_under, outcome_well, reports_begun, rest_reported}
 
@@ -126,18 +123,14 @@ module _ (for_people : Bool) (messages : Text) (answer : EventValue → Text) (s
     said_last t (inr (inl p)) = said_broken t p.0 p.1 (three write_failed p.1)
     said_last t (inr (inr p)) = said_refused t p.0 p.1
 
-    said_fault : (fault : TurnFault) → AnswersInput answer (Err fault) (devices_of before) (At out) → now.out ≡ out → Concludes for_people (Err fault) status after now.err → (status ≡ 0 → ⊥) → Serves outcome status before now
-    said_fault fault t e c n =
+    said_fault : (fault : TurnFault) → AnswersInput answer (Err fault) (devices_of before) (At out) → now.out ≡ out → SaysFault for_people fault status after now.err → Serves outcome status before now
+    said_fault fault t e c =
         let all : AnswersInput answer (Err fault) (devices_of before) (devices_of now) = subst (λ sink. AnswersInput answer (Err fault) (devices_of before) (At sink)) (sym e) t in
-        said_still n (answers_serve for_people messages answer status before now (inr (record { after = after; says = written; end = Err fault; answers = all; concludes = c })))
+        said_still (says_some for_people fault status after now.err c) (answers_serve for_people messages answer status before now (inr (record { after = after; says = written; end = Err fault; answers = all; concludes = c })))
 
     said_by : (end : Result (Unit {0}) TurnFault) (t : AnswersInput answer end (devices_of before) (At out)) → ConcludesSaying for_people end (says (joined t.read)) status out now.out after now.err → Serves outcome status before now
     said_by (Ok done) t c = said_last t c
-    said_by (Err Read) t c = said_fault Read t c.0 c.1 (reports_some read_failed 3 status after now.err (omega arith) c.1)
-    said_by (Err Write) t c = said_fault Write t c.0 c.1 (reports_some write_failed 3 status after now.err (omega arith) c.1)
-    said_by (Err (Session (Block number fault))) t c = said_fault (Session (Block number fault)) t c.0 c.1 (reports_some (block_said for_people number fault) 1 status after now.err (omega arith) c.1)
-    said_by (Err (Session Memory)) t c = said_fault (Session Memory) t c.0 c.1 (reports_some out_of_memory 4 status after now.err (omega arith) c.1)
-    said_by (Err (Session Ended)) t c = absurd c.1
+    said_by (Err fault) t c = said_fault fault t c.0 c.1
 
 -- from the steps of a run that ends with a text to what it serves
 pub said_serve : (for_people : Bool) (messages : Text) (answer : EventValue → Text) (says : Text → Text) (status : ℕ) (before now : Streams) → SaysAll for_people messages answer says status before now

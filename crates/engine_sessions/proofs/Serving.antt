@@ -25,7 +25,7 @@ use Rattle.engine_ends.specs.Delivery.{Delivers, IsWhole, ReportsFailure, RunOut
 use Rattle.engine_sessions.specs.BlockFaults.{block_said}
 use Rattle.engine_sessions.specs.Inputs.{AnswersInput, devices_of}
 use Rattle.engine_sessions.specs.Outcomes.{answered, answered_until, input_outcome}
-use Rattle.engine_sessions.specs.Serves.{read_failed, WritesOut, IsStatusLine, IsCutShort, ReportsFailures, Serves, Concludes, StopsBefore, AnswersAll, Reports}
+use Rattle.engine_sessions.specs.Serves.{read_failed, WritesOut, IsStatusLine, IsCutShort, ReportsFailures, SaysFault, Serves, Concludes, StopsBefore, AnswersAll, Reports}
 
 pub not_four : (status : ℕ) {P : Type 0} → status ≡ 3 → status ≡ 4 → P
 not_four status e f = absurd (omega (arith, e, f))
@@ -168,7 +168,7 @@ module _ (for_people : Bool) (messages : Text) (answer : EventValue → Text) (s
   output_begun : (text : Text) → HasBegun before.out (joined (answers_of answer text).texts) now.out → HasBegun before.out (input_outcome for_people messages answer text).output now.out
   output_begun text b = subst (λ o. HasBegun before.out o now.out) (sym (output_is for_people messages (joined (answers_of answer text).texts) (length (answers_of answer text).texts) (answers_of answer text).fault)) b
 
-  served_well : (t : AnswersInput answer (Ok tt) (devices_of before) (devices_of now)) → Concludes for_people (Ok tt) status after now.err → Serves (input_outcome for_people messages answer) status before now
+  served_well : (t : AnswersInput answer (Ok tt) (devices_of before) (devices_of now)) → Concludes for_people 0 (Ok tt) status after now.err → Serves (input_outcome for_people messages answer) status before now
   served_well t c =
       let is = outcome_well for_people messages answer (joined t.read) t.sent t.ends.answers in
       record {
@@ -186,7 +186,7 @@ module _ (for_people : Bool) (messages : Text) (answer : EventValue → Text) (s
         statuses = omega (arith, c.0);
       }
 
-  served_read : (t : AnswersInput answer (Err Read) (devices_of before) (devices_of now)) → Concludes for_people (Err Read) status after now.err → status ≡ 3 → Serves (input_outcome for_people messages answer) status before now
+  served_read : (t : AnswersInput answer (Err Read) (devices_of before) (devices_of now)) → SaysFault for_people Read status after now.err → status ≡ 3 → Serves (input_outcome for_people messages answer) status before now
   served_read t c e = record {
     read = t.read;
     pieces = t.pieces;
@@ -202,7 +202,7 @@ module _ (for_people : Bool) (messages : Text) (answer : EventValue → Text) (s
     statuses = omega (arith, e);
   }
 
-  served_write : (t : AnswersInput answer (Err Write) (devices_of before) (devices_of now)) → Concludes for_people (Err Write) status after now.err → status ≡ 3 → Serves (input_outcome for_people messages answer) status before now
+  served_write : (t : AnswersInput answer (Err Write) (devices_of before) (devices_of now)) → SaysFault for_people Write status after now.err → status ≡ 3 → Serves (input_outcome for_people messages answer) status before now
   served_write t c e = record {
     read = t.read;
     pieces = t.pieces;
@@ -218,7 +218,7 @@ module _ (for_people : Bool) (messages : Text) (answer : EventValue → Text) (s
     statuses = omega (arith, e);
   }
 
-  served_memory : (t : AnswersInput answer (Err (Session Memory)) (devices_of before) (devices_of now)) → Concludes for_people (Err (Session Memory)) status after now.err → Serves (input_outcome for_people messages answer) status before now
+  served_memory : (t : AnswersInput answer (Err (Session Memory)) (devices_of before) (devices_of now)) → SaysFault for_people (Session Memory) status after now.err → Serves (input_outcome for_people messages answer) status before now
   served_memory t c = record {
     read = t.read;
     pieces = t.pieces;
@@ -235,7 +235,7 @@ module _ (for_people : Bool) (messages : Text) (answer : EventValue → Text) (s
       reported_failures (inl p) e f = record { failed = λ g. not_four status g p.0; well = λ h. (e, f, p.1.well ∙ says.well) }
       reported_failures (inr p) e f = record { failed = λ g. inr (inr (inl (subst (λ n. Counts 1 n now.err.faults) says.well p.1.failed))); well = λ h. absurd (h p.0) }
 
-  served_block : (number : ℕ) (fault : BlockFault) (t : AnswersInput answer (Err (Session (Block number fault))) (devices_of before) (devices_of now)) → Concludes for_people (Err (Session (Block number fault))) status after now.err → Serves (input_outcome for_people messages answer) status before now
+  served_block : (number : ℕ) (fault : BlockFault) (t : AnswersInput answer (Err (Session (Block number fault))) (devices_of before) (devices_of now)) → SaysFault for_people (Session (Block number fault)) status after now.err → Serves (input_outcome for_people messages answer) status before now
   served_block number fault t (inl p) =
       let is = outcome_faulty for_people messages answer (joined t.read) t.sent number fault t.ends.0.answers t.ends.0.numbered in
       record {
@@ -273,13 +273,13 @@ module _ (for_people : Bool) (messages : Text) (answer : EventValue → Text) (s
   three line (inl p) = p.0
   three line (inr p) = p.0
 
-  served_after : (end : Result (Unit {0}) TurnFault) → AnswersInput answer end (devices_of before) (devices_of now) → Concludes for_people end status after now.err → Serves (input_outcome for_people messages answer) status before now
+  served_after : (end : Result (Unit {0}) TurnFault) → AnswersInput answer end (devices_of before) (devices_of now) → Concludes for_people 0 end status after now.err → Serves (input_outcome for_people messages answer) status before now
   served_after (Ok done) t c = served_well t c
   served_after (Err Read) t c = served_read t c (three read_failed c)
   served_after (Err Write) t c = served_write t c (three write_failed c)
   served_after (Err (Session (Block number fault))) t c = served_block number fault t c
   served_after (Err (Session Memory)) t c = served_memory t c
-  served_after (Err (Session Ended)) t c = absurd c
+  served_after (Err (Session Ended)) t c = absurd t.ends
 
 -- nothing was read or answered
 served_before : (for_people : Bool) (messages : Text) (answer : EventValue → Text) (status : ℕ) (before now : Streams) → StopsBefore messages status before now

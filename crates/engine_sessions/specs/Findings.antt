@@ -3,12 +3,11 @@
 use Rattle.std.specs.Prelude.{◌≡◌, ℕ, ◌⊎◌, ◌==◌, Bool, if◌then◌else◌, List, Result, Ok, Err, IfOk, length}
 use Rattle.text_tables.specs.Texts.{Text}
 use Rattle.device_core.specs.Values.{EventValue}
-use Rattle.engine_ends.specs.Sinks.{SinkState}
 use Rattle.engine_ends.specs.Streams.{Streams}
 use Rattle.engine_ends.specs.Delivery.{RunOutcome}
 use Rattle.engine_sessions.specs.Turns.{say_something}
 use Rattle.engine_sessions.specs.Inputs.{AnswersInput, Devices}
-use Rattle.engine_sessions.specs.Serves.{AnswersAfter, Concludes, StopsBefore}
+use Rattle.engine_sessions.specs.Serves.{AnswersAfter, StopsBefore}
 use Rattle.engine_sessions.specs.declared.turning.TurnFault.{TurnFault}
 
 -- how it ended, whatever was found
@@ -25,13 +24,11 @@ pub record AnswersFinding (answer : EventValue → Text) (end : Result Bool Turn
 abbrev pub found : RunOutcome → RunOutcome
 found outcome = record { output = outcome.output; messages = outcome.messages; status = if length outcome.output == 0 then outcome.status else 1 }
 
--- How the answering of an input is reported if these answers are findings: as it is otherwise, except that if all is
--- answered the status is 1 if any of them has a byte.
-abbrev pub ConcludesFinding : (for_people : Bool) → Result (Unit {0}) TurnFault → List Text → ℕ → SinkState → SinkState → Type 0
-ConcludesFinding for_people (Ok done) sent status err err_now = (status ≡ (if say_something sent then 1 else 0)) × (err_now ≡ err)
-ConcludesFinding for_people (Err fault) sent status err err_now = Concludes for_people (Err fault) status err err_now
+-- the status for answers that are findings: 1 if any of them has a byte
+abbrev pub status_found : List Text → ℕ
+status_found sent = if say_something sent then 1 else 0
 
 -- Messages, and the findings in an input after them, step by step.
 abbrev pub FindsAll : (for_people : Bool) → Text → (EventValue → Text) → ℕ → Streams → Streams → Type 0
 FindsAll for_people messages answer status before now =
-    StopsBefore messages status before now ⊎ AnswersAfter (ConcludesFinding for_people) messages answer status before now
+    StopsBefore messages status before now ⊎ AnswersAfter for_people status_found messages answer status before now

@@ -58,23 +58,34 @@ pub record Serves (outcome : Text → RunOutcome) (status : ℕ) (before now : S
   pub failures : ReportsFailures status (length read) before now
   pub statuses : status ≤ 4
 
--- How the answering of an input is reported: by nothing, or by one line and its status; a faulty block for people or not.
-abbrev pub Concludes : (for_people : Bool) → Result (Unit {0}) TurnFault → ℕ → SinkState → SinkState → Type 0
-Concludes for_people (Ok done) status err err_now = (status ≡ 0) × (err_now ≡ err)
-Concludes for_people (Err Read) status err err_now = ReportsFailure read_failed 3 status err err_now
-Concludes for_people (Err Write) status err err_now = ReportsFailure write_failed 3 status err err_now
-Concludes for_people (Err (Session (Block number fault))) status err err_now = ReportsFailure (block_said for_people number fault) 1 status err err_now
-Concludes for_people (Err (Session Memory)) status err err_now = ReportsFailure out_of_memory 4 status err err_now
-Concludes for_people (Err (Session Ended)) status err err_now = ⊥
+-- What is said about the fault that stopped the answering of an input, about a faulty block for people or not, and the status for it.
+-- The last line is there for completeness: no answering of an input ends with `Ended` (`EndsBy`).
+abbrev pub fault_said : (for_people : Bool) → TurnFault → Text × ℕ
+fault_said for_people Read = (read_failed, 3)
+fault_said for_people Write = (write_failed, 3)
+fault_said for_people (Session (Block number fault)) = (block_said for_people number fault, 1)
+fault_said for_people (Session Memory) = (out_of_memory, 4)
+fault_said for_people (Session Ended) = ([], 3)
 
--- The messages are written, then the input is answered, and then its end is reported, in the way that is asked for.
-pub record AnswersAfter (Concluded : Result (Unit {0}) TurnFault → List Text → ℕ → SinkState → SinkState → Type 0) (messages : Text)
-    (answer : EventValue → Text) (status : ℕ) (before now : Streams) : Type 0 where
+-- That is said on the error output, and its status returned, or the error output fails in it.
+abbrev pub SaysFault : (for_people : Bool) → TurnFault → ℕ → SinkState → SinkState → Type 0
+SaysFault for_people fault status err err_now =
+    ReportsFailure (fault_said for_people fault).0 (fault_said for_people fault).1 status err err_now
+
+-- How a run ends after its input: if all is answered, nothing is said and the status is that for what was sent; otherwise the fault is said.
+abbrev pub Concludes : (for_people : Bool) → (for_sent : ℕ) → Result (Unit {0}) TurnFault → ℕ → SinkState → SinkState → Type 0
+Concludes for_people for_sent (Ok done) status err err_now = (status ≡ for_sent) × (err_now ≡ err)
+Concludes for_people for_sent (Err fault) status err err_now = SaysFault for_people fault status err err_now
+
+-- The messages are written, then the input is answered, and then the run ends: if all is answered, with the status that is for the
+-- answers sent.
+pub record AnswersAfter (for_people : Bool) (status_for : List Text → ℕ) (messages : Text) (answer : EventValue → Text) (status : ℕ)
+    (before now : Streams) : Type 0 where
   pub after : SinkState
   pub says : HandsOn before.err messages after
   pub end : Result (Unit {0}) TurnFault
   pub answers : AnswersInput answer end (devices_of before) (devices_of now)
-  pub concludes : Concluded end answers.sent status after now.err
+  pub concludes : Concludes for_people (status_for answers.sent) end status after now.err
 
 -- Nothing is read or answered: the error output failed at the messages, or memory runs out before them, which its
 -- line says.
@@ -86,7 +97,7 @@ pub record StopsBefore (messages : Text) (status : ℕ) (before now : Streams) :
 -- Messages, and the answers to an input after them, step by step.
 abbrev pub AnswersAll : (for_people : Bool) → Text → (EventValue → Text) → ℕ → Streams → Streams → Type 0
 AnswersAll for_people messages answer status before now =
-    StopsBefore messages status before now ⊎ AnswersAfter (λ end sent. Concludes for_people end) messages answer status before now
+    StopsBefore messages status before now ⊎ AnswersAfter for_people (λ sent. 0) messages answer status before now
 
 -- What is said about files is delivered, and no input is read.
 pub record Reports (outcome : RunOutcome) (status : ℕ) (before now : Streams) : Type 0 where

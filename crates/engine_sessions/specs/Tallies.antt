@@ -12,7 +12,7 @@ use Rattle.engine_ends.specs.Delivery.{ReportsFailure, RunOutcome, out_of_memory
 use Rattle.engine_sessions.specs.Turns.{joined}
 use Rattle.engine_sessions.specs.Inputs.{AnswersInput, Devices, devices_of}
 use Rattle.engine_sessions.specs.Findings.{AnswersFinding}
-use Rattle.engine_sessions.specs.Serves.{Concludes, StopsBefore}
+use Rattle.engine_sessions.specs.Serves.{SaysFault, StopsBefore}
 use Rattle.engine_sessions.specs.declared.turning.TurnFault.{TurnFault}
 
 -- the event of a block that is not faulty
@@ -55,7 +55,7 @@ SaysLast text status out out_now err err_now =
 -- How a run ends after its input: with a text, if all was answered, and otherwise as it does without one.
 abbrev pub ConcludesSaying : (for_people : Bool) → Result (Unit {0}) TurnFault → Text → ℕ → (out out_now err err_now : SinkState) → Type 0
 ConcludesSaying for_people (Ok done) text status out out_now err err_now = SaysLast text status out out_now err err_now
-ConcludesSaying for_people (Err fault) text status out out_now err err_now = (out_now ≡ out) × Concludes for_people (Err fault) status err err_now
+ConcludesSaying for_people (Err fault) text status out out_now err err_now = (out_now ≡ out) × SaysFault for_people fault status err err_now
 
 -- The messages are written, then the input is answered, and then there is what is said about all of it.
 pub record SaysAfter (for_people : Bool) (messages : Text) (answer : EventValue → Text) (says : Text → Text) (status : ℕ) (before now : Streams) : Type 0 where

@@ -1,9 +1,9 @@
 //! Messages, and the answers to an input after them.
-ghost use Rattle.std.specs.Prelude.{◌≡◌, Err};
+ghost use Rattle.std.specs.Prelude.{◌≡◌};
 ghost use Rattle.engine_sessions.specs.Findings.{FindsAll, found};
 ghost use Rattle.engine_sessions.specs.Outcomes.{input_outcome};
 ghost use Rattle.engine_sessions.specs.Sessions.{answer_of, asked_by};
-ghost use Rattle.engine_sessions.specs.Serves.{AnswersAll, Concludes, Serves};
+ghost use Rattle.engine_sessions.specs.Serves.{AnswersAll, SaysFault, Serves};
 
 use crate::answering::Answering;
 use crate::block_faults::report_block_fault;
@@ -125,7 +125,7 @@ fn find_in_steps<A: Answering, R: Source, W: Sink, E: Sink>(
 /// Reports why the answering of an input stopped, and returns the status for it, or 3 if the error output failed.
 pub(crate) fn conclude<E: Sink>(for_people: bool, fault: TurnFault, error: &mut E) -> u8
     requires { fault ≡ TurnFault.Session SessionFault.Ended → ⊥ }
-    ensures { Concludes for_people (Err fault) result (E.shown error.old) (E.shown error.new) }
+    ensures { SaysFault for_people fault result (E.shown error.old) (E.shown error.new) }
 {
     match fault {
         TurnFault::Read => report_failure(error, READ_FAILED, 3),

@@ -1,11 +1,11 @@
 -- What the fault of a reading is about.
-use Rattle.std.specs.Prelude.{◌≡◌, ◌∷◌, ◌⊎◌, ⊤, ℕ, List, [], String, map, string_bytes}
+use Rattle.std.specs.Prelude.{◌≡◌, ◌++◌, ◌∷◌, ◌⊎◌, ⊤, ℕ, List, [], String, map, string_bytes}
 use Rattle.std.specs.Option.{option_copied, option_to_list}
 use Rattle.std.specs.declared.alloc.Global.{Global}
 use Rattle.text_bytes.specs.declared.source_file.SourceFile.{SourceFile}
 use Rattle.devdry_files.specs.Answers.{Answer}
 use Rattle.devdry_files.specs.Answers.Answer.{Content, NoContent, NoListing}
-use Rattle.devdry_files.specs.Found.{AreAdded, AreInFolder, AreNamed, AreNamesIn, path_in}
+use Rattle.devdry_files.specs.Found.{AreInFolder, AreNamesIn, path_in}
 use Rattle.devdry_files.specs.Inside.{MayInside}
 use Rattle.devdry_files.specs.declared.disk.DiskFault.TheVariants.{Absent, Unreadable, NotUtf8}
 use Rattle.devdry_files.specs.declared.fault.ReadFault.{ReadFault}
@@ -30,42 +30,58 @@ IsUnreadable may path = may (NoContent path Unreadable) ⊎ may (NoContent path 
 abbrev pub IsUnread : (Answer → Type 0) → List ℕ → Type 0
 IsUnread may path = may (NoContent path Absent) ⊎ IsUnreadable may path
 
--- the first of the items that is faulty, with the path of its fault; each before it was read
-abbrev pub FirstFaulty : {T : Type 0} → (T → Type 0) → (T → List ℕ → Type 0) → List T → List ℕ → Type 0
-FirstFaulty WasRead IsFaulty [] path = ⊥
-FirstFaulty WasRead IsFaulty (item ∷ items) path =
-    IsFaulty item path ⊎ (WasRead item × FirstFaulty WasRead IsFaulty items path)
+-- A step of reading: what it means that it was done, and that it failed with a fault that has a path.
+pub record ReadStep : Type 1 where
+  pub WasDone : Type 0
+  pub FailsAt : List ℕ → Type 0
 
--- the path is the first of these at which the disk may say that it can't read a file; those before it were read
-abbrev pub IsFirstUnread : (Answer → Type 0) → List (List ℕ) → List ℕ → Type 0
-IsFirstUnread may paths path =
-    FirstFaulty (λ at. (bytes : List ℕ) × may (Content at bytes)) (λ at p. (p ≡ at) × IsUnread may p) paths path
+-- one of the steps failed with a fault that has the path; all before it were done
+abbrev pub FirstFails : List ReadStep → List ℕ → Type 0
+FirstFails [] path = ⊥
+FirstFails (step ∷ steps) path = step.FailsAt path ⊎ (step.WasDone × FirstFails steps path)
+
+-- the step that reads the file at a path
+abbrev pub file_step : (Answer → Type 0) → List ℕ → ReadStep
+file_step may at = record { WasDone = (bytes : List ℕ) × may (Content at bytes); FailsAt = λ path. (path ≡ at) × IsUnread may path }
+
+-- the steps that read the files at these paths
+abbrev pub file_steps : (Answer → Type 0) → List (List ℕ) → List ReadStep
+file_steps may paths = map (file_step may) paths
+
+-- the step that lists a folder, in which these are the names of files of its kind
+abbrev pub listing_step : (Answer → Type 0) → Folder → List (String Global) → ReadStep
+listing_step may folder names =
+    record { WasDone = AreNamesIn may folder names; FailsAt = λ path. (path ≡ string_bytes folder.path) × IsUnlisted may path }
+
+-- the steps that read a folder in which these are the names of files of its kind: it is listed, and then its files are read
+abbrev pub steps_in : (Answer → Type 0) → Folder → List (String Global) → List ReadStep
+steps_in may folder names = listing_step may folder names ∷ file_steps may (map (path_in folder) (map string_bytes names))
 
 -- the path is that of the folder, which the disk may say that it can't list, or of the first of its files that it may say
 -- that it can't read
 abbrev pub IsFaultyIn : (Answer → Type 0) → Folder → List ℕ → Type 0
-IsFaultyIn may folder path = ((path ≡ string_bytes folder.path) × IsUnlisted may path)
-    ⊎ ((names : List (String Global)) × AreNamesIn may folder names
-    × IsFirstUnread may (map (path_in folder) (map string_bytes names)) path)
+IsFaultyIn may folder path = (names : List (String Global)) × FirstFails (steps_in may folder names) path
 
--- the same for the first such of the folders
-abbrev pub IsFaultyInOneOf : (Answer → Type 0) → List Folder → List ℕ → Type 0
-IsFaultyInOneOf may folders path =
-    FirstFaulty (λ folder. (files : List SourceFile) × AreInFolder may folder files) (IsFaultyIn may) folders path
+-- the step that reads a folder
+abbrev pub folder_step : (Answer → Type 0) → Folder → ReadStep
+folder_step may folder = record { WasDone = (files : List SourceFile) × AreInFolder may folder files; FailsAt = IsFaultyIn may folder }
 
--- The first of what is wanted and not named, in the order of reading, that the disk may say it can't read or list: the path is that of an
--- added file, or, when all of those were read, of a folder inside the root, or of a name in one.
-abbrev pub IsFaultyUnnamed : (Answer → Type 0) → Wanted → List ℕ → Type 0
-IsFaultyUnnamed may w path = IsFirstUnread may (map (λ f. f.now) w.added.now) path
-    ⊎ ((added : List SourceFile) × AreAdded may (map (λ f. f.now) w.added.now) added
-    × IsFaultyInOneOf (MayInside may w.root.now) w.folders.items path)
+-- the steps that read the folders
+abbrev pub folder_steps : (Answer → Type 0) → List Folder → List ReadStep
+folder_steps may folders = map (folder_step may) folders
 
--- The first of what is wanted, in the order of reading, that the disk may say it can't read or list: the path is that of a
--- named file, or, when all of those were read, of what is not named.
+-- the steps that read what is wanted and not named: the added files, and then the folders inside their root
+abbrev pub unnamed_steps : (Answer → Type 0) → Wanted → List ReadStep
+unnamed_steps may w = file_steps may (map (λ f. f.now) w.added.now) ++ folder_steps (MayInside may w.root.now) w.folders.items
+
+-- the steps that read what is wanted, in their order: the named files, and then the rest
+abbrev pub wanted_steps : (Answer → Type 0) → Wanted → List ReadStep
+wanted_steps may w = file_steps may (map (λ f. f.now) w.files.now) ++ unnamed_steps may w
+
+-- the path is that of the first file or folder, in the order of reading, that the disk may say it can't read or list
 abbrev pub IsFaultyWanted : (Answer → Type 0) → Wanted → List ℕ → Type 0
-IsFaultyWanted may w path = IsFirstUnread may (map (λ f. f.now) w.files.now) path
-    ⊎ ((named : List SourceFile) × AreNamed may w.kind (map (λ f. f.now) w.files.now) named × IsFaultyUnnamed may w path)
+IsFaultyWanted may w path = FirstFails (wanted_steps may w) path
 
 -- the path is that of the index that is wanted, which the disk may say that it can't read
 abbrev pub IsFaultyIndex : (Answer → Type 0) → Wanted → List ℕ → Type 0
-IsFaultyIndex may w path = IsFirstUnread may (option_to_list (option_copied w.index)) path
+IsFaultyIndex may w path = FirstFails (file_steps may (option_to_list (option_copied w.index))) path

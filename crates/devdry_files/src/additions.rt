@@ -1,6 +1,6 @@
 //! The files that stand among those of the folders as if they were in the first of these.
 ghost use Rattle.std.specs.Prelude.{◌≡◌, IfErr, IfOk, map};
-ghost use Rattle.devdry_files.specs.Faults.{HasPath, IsFirstUnread, IsUnread};
+ghost use Rattle.devdry_files.specs.Faults.{FirstFails, HasPath, IsUnread, file_steps};
 ghost use Rattle.devdry_files.specs.Found.{AreAdded, IsFileAt};
 ghost use Rattle.devdry_files.specs.Places.{kind_added, name_at};
 
@@ -53,7 +53,7 @@ pub(crate) fn added_files<D: Disk>(
     ensures files { IfOk result (λ files.
         AreAdded (D.may_answer disk.now) (map (λ p. p.now) paths.now) files.items) }
     ensures fault { IfErr result (HasPath
-        (IsFirstUnread (D.may_answer disk.now) (map (λ p. p.now) paths.now))) }
+        (FirstFails (file_steps (D.may_answer disk.now) (map (λ p. p.now) paths.now)))) }
 {
     let mut files = Vec::new(alloc);
     for path in paths {

@@ -2,7 +2,7 @@
 ghost use Rattle.std.specs.Prelude.{◌≡◌, ◌++◌, ◌∷◌, IfErr, IfOk, map, string_bytes};
 ghost use Rattle.text_bytes.specs.Names.{slash};
 ghost use Rattle.devdry_files.specs.Answers.Answer.{Content, NoContent};
-ghost use Rattle.devdry_files.specs.Faults.{HasPath, IsFaultyIn, IsFaultyInOneOf, IsFaultyIndex, IsFaultyUnnamed, IsFaultyWanted, IsFirstUnread, IsUnread};
+ghost use Rattle.devdry_files.specs.Faults.{FirstFails, HasPath, IsFaultyIn, IsFaultyIndex, IsFaultyWanted, IsUnread, file_steps, folder_steps, unnamed_steps};
 ghost use Rattle.devdry_files.specs.Found.{AreInFolder, AreInFolders, AreNamed, AreUnnamed, AreWanted, IsFileAt, IsIndexWanted, path_in};
 
 use crate::additions::added_files;
@@ -102,7 +102,7 @@ fn files_of_folders<D: Disk>(
 ) -> Result<Vec<SourceFile>, ReadFault>
     ensures files { IfOk result (λ files.
         AreInFolders (D.may_answer disk.now) folders.now files.items) }
-    ensures fault { IfErr result (HasPath (IsFaultyInOneOf (D.may_answer disk.now) folders.now)) }
+    ensures fault { IfErr result (HasPath (FirstFails (folder_steps (D.may_answer disk.now) folders.now))) }
 {
     let mut files = Vec::new(alloc);
     for folder in folders {
@@ -137,7 +137,7 @@ fn named_files<D: Disk>(
     ensures files { IfOk result (λ files.
         AreNamed (D.may_answer disk.now) kind (map (λ p. p.now) paths.now) files.items) }
     ensures fault { IfErr result (HasPath
-        (IsFirstUnread (D.may_answer disk.now) (map (λ p. p.now) paths.now))) }
+        (FirstFails (file_steps (D.may_answer disk.now) (map (λ p. p.now) paths.now)))) }
 {
     let mut files = Vec::new(alloc);
     for path in paths {
@@ -154,7 +154,7 @@ fn unnamed_files<D: Disk>(
 ) -> Result<Vec<SourceFile>, ReadFault>
     ensures files { IfOk result (λ files.
         AreUnnamed (D.may_answer disk.now) wanted.now files.items) }
-    ensures fault { IfErr result (HasPath (IsFaultyUnnamed (D.may_answer disk.now) wanted.now)) }
+    ensures fault { IfErr result (HasPath (FirstFails (unnamed_steps (D.may_answer disk.now) wanted.now))) }
 {
     let mut files = added_files(alloc, disk, wanted.added)?;
     let inside = RootedDisk::new(disk, wanted.root);

@@ -2,7 +2,7 @@ use Rattle.std.proofs.Common.{◌≡◌, ◌∙◌, ◌++◌, ◌+◌, ◌∷◌
 use Rattle.std.proofs.Math.Seq.{split_at}
 use Rattle.devdry_files.specs.Faults.{HasPath, IsFaultyIn, IsUnread}
 use Rattle.devdry_files.specs.Found.{AreFilesAt, IsFileAt, path_in}
-use Rattle.devdry_files.proofs.Adding.{at_file_in, file_more, handed_on, one_more}
+use Rattle.devdry_files.proofs.Adding.{at_file_in, at_folder, file_more, handed_on, one_more}
 use Rattle.devdry_files.proofs.reading.files_in.Goals as goal
 
 pub returns-in_err-file_in-clause-fault : goal.returns-in_err-file_in-clause-fault
@@ -33,3 +33,11 @@ loop-name-preserved g c =
     let more : AreFilesAt may folder.kind folder.rank (path_in folder) (map string_bytes (take index items ++ name ∷ [])) (files ++ file ∷ []) =
     file_more string_bytes may folder.kind folder.rank (path_in folder) (take index items) files name file c.loop-name.invariant here in
     rw (next, c.in_ok-push.ensures.items) more
+
+pub returns-in_err-names-clause-fault : goal.returns-in_err-names-clause-fault
+returns-in_err-names-clause-fault g c =
+    let may = g.D.Disk.may_answer c.args.disk.now in
+    let folder = c.args.folder.now in
+    let fault = c.in_err-names.field-0.0 in
+    handed_on (IsFaultyIn may folder) c.from_residual.result fault c.from_residual.ensures.1
+    (at_folder may folder fault c.in_err-names.ensures.fault)

@@ -1,6 +1,6 @@
 use Rattle.std.proofs.Common.{◌≡◌, ◌∙◌, ◌++◌, ◌+◌, ◌∷◌, [], ap, drop, rules, subst, suc, sym, take}
 use Rattle.std.proofs.Math.Seq.{split_at}
-use Rattle.devdry_files.specs.Faults.{IsFaultyInOneOf}
+use Rattle.devdry_files.specs.Faults.{FirstFails, folder_steps}
 use Rattle.devdry_files.specs.Found.{AreInFolders}
 use Rattle.devdry_files.proofs.Adding.{among, folders_more, handed_on, one_more}
 use Rattle.devdry_files.proofs.reading.files_of_folders.Goals as goal
@@ -13,7 +13,7 @@ returns-in_err-files_in-clause-fault g c =
     let fault = c.in_err-files_in.field-0.0 in
     let place = c.loop-folder.folder-index in
     let cut : folders ≡ take place folders ++ folder ∷ drop (suc place) folders = subst (λ f. folders ≡ take place folders ++ f ∷ drop (suc place) folders) (sym c.folder-item.is) (split_at folders place folder (search rules)) in
-    handed_on (IsFaultyInOneOf may folders) c.from_residual.result fault c.from_residual.ensures.1
+    handed_on (FirstFails (folder_steps may folders)) c.from_residual.result fault c.from_residual.ensures.1
     (among may folders (take place folders) folder (drop (suc place) folders) c.loop-folder.files.items fault cut c.loop-folder.invariant c.in_err-files_in.ensures.fault)
 
 pub loop-folder-preserved : goal.loop-folder-preserved

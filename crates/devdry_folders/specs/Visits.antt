@@ -1,6 +1,6 @@
 -- The folders and files that a line asks for, and the outcome of each visit, as it comes from the answers that a disk
 -- may give.
-use Rattle.std.specs.Prelude.{◌≡◌, ◌++◌, ◌∷◌, ℕ, All, true, false, IsPermutation, IsSorted, List, []}
+use Rattle.std.specs.Prelude.{◌≡◌, ◌++◌, ◌∷◌, ◌⊎◌, ℕ, All, true, false, IsPermutation, IsSorted, List, []}
 use Rattle.std.specs.Prelude.{None, Option, Some, String, if◌then◌else◌, map, nat_eq, string_bytes}
 use Rattle.std.specs.List.{ends_with}
 use Rattle.std.specs.String.{string_cmp}
@@ -56,14 +56,17 @@ pub record AreSightsIn (may : Answer → Type 0) (suffix folder : List ℕ) (sig
   pub are_names : AreAllNames may folder names
   pub are_sights : AreSightsAt may suffix folder (map string_bytes names) sights
 
--- the outcome of listing the folder at a path: its sights, or that it is gone, can't be listed, or has a name that is
--- not UTF-8
-abbrev pub IsListedSo : (Answer → Type 0) → (suffix path : List ℕ) → Spot → List Sight → Type 0
-IsListedSo may suffix path spot.Folder sights = AreSightsIn may suffix path sights
-IsListedSo may suffix path spot.Absent sights = may (NoListing path disk.Absent) × (sights ≡ [])
-IsListedSo may suffix path (spot.Unread reasons.Failed) sights = may (NoListing path disk.Unreadable) × (sights ≡ [])
-IsListedSo may suffix path (spot.Unread reasons.NotUtf8) sights = may (NoListing path disk.NotUtf8) × (sights ≡ [])
-IsListedSo may suffix path _ sights = ⊥
+-- a folder is not listed for this, as the disk may say: it is gone, can't be listed, or has a name that is not UTF-8
+abbrev pub IsListingFault : (Answer → Type 0) → List ℕ → Spot → Type 0
+IsListingFault may path spot.Absent = may (NoListing path disk.Absent)
+IsListingFault may path (spot.Unread reasons.Failed) = may (NoListing path disk.Unreadable)
+IsListingFault may path (spot.Unread reasons.NotUtf8) = may (NoListing path disk.NotUtf8)
+IsListingFault may path _ = ⊥
+
+-- the outcome of listing the folder at a path, with files of a suffix: what is met in it, or why it is not listed
+abbrev pub IsListedSo : (Answer → Type 0) → (suffix path : List ℕ) → Scan → Type 0
+IsListedSo may suffix path scan = ((scan.spot ≡ spot.Folder) × AreSightsIn may suffix path scan.sights.items)
+    ⊎ (IsListingFault may path scan.spot × (scan.sights.items ≡ []))
 
 -- what it means that nothing is at a folder's path, by the symlink there, if there is one: no folder, or a folder
 -- that can't be read
@@ -79,14 +82,17 @@ IsUnlisted it scan = (scan.spot ≡ it) × (scan.sights.items ≡ [])
 abbrev pub IsMissingFolder : (Answer → Type 0) → List ℕ → Scan → Type 0
 IsMissingFolder may path scan = (shown : Step) × may (Stepped path shown) × IsUnlisted (missing_folder (target_of shown)) scan
 
+-- what is at a folder's path, by a look that shows neither a folder nor that nothing is there
+abbrev pub spot_by : Look → Spot
+spot_by looks.Forbidden = spot.Unread reasons.Forbidden
+spot_by looks.Failed = spot.Unread reasons.Failed
+spot_by _ = spot.Unread reasons.NotFolder
+
 -- the outcome for a folder that is wanted, by a look
 abbrev pub IsScannedBy : (Answer → Type 0) → (suffix path : List ℕ) → Look → Scan → Type 0
 IsScannedBy may suffix path looks.Absent scan = IsMissingFolder may path scan
-IsScannedBy may suffix path looks.Folder scan = IsListedSo may suffix path scan.spot scan.sights.items
-IsScannedBy may suffix path looks.File scan = IsUnlisted (spot.Unread reasons.NotFolder) scan
-IsScannedBy may suffix path looks.Forbidden scan = IsUnlisted (spot.Unread reasons.Forbidden) scan
-IsScannedBy may suffix path looks.Other scan = IsUnlisted (spot.Unread reasons.NotFolder) scan
-IsScannedBy may suffix path looks.Failed scan = IsUnlisted (spot.Unread reasons.Failed) scan
+IsScannedBy may suffix path looks.Folder scan = IsListedSo may suffix path scan
+IsScannedBy may suffix path look scan = IsUnlisted (spot_by look) scan
 
 -- the outcome for a folder that is wanted, with files of a suffix
 pub record IsFolderScan (may : Answer → Type 0) (suffix path : List ℕ) (scan : Scan) : Type 0 where
@@ -108,7 +114,7 @@ pub record IsOneFile (may : Answer → Type 0) (path : List ℕ) (look : Look) (
 
 -- the outcome for what is named, by a look: a folder is listed
 abbrev pub IsNamedSo : (Answer → Type 0) → FileKind → List ℕ → Look → Scan → Type 0
-IsNamedSo may kind path looks.Folder scan = IsListedSo may (suffix_of kind) path scan.spot scan.sights.items
+IsNamedSo may kind path looks.Folder scan = IsListedSo may (suffix_of kind) path scan
 IsNamedSo may kind path look scan = IsOneFile may path look scan
 
 -- a visit of what is named: a file, or a folder whose files of the kind are taken

@@ -130,8 +130,7 @@ fn scan_listed<D: Disk>(
     suffix: &str,
     path: &str,
 ) -> Result<Scan, AllocError>
-    ensures { IfOk result (λ scan.
-        IsListedSo (D.may_answer disk.now) suffix.now path.now scan.spot scan.sights.items) }
+    ensures { IfOk result (IsListedSo (D.may_answer disk.now) suffix.now path.now) }
 {
     match disk.list(alloc, path) {
         Ok(entries) => Ok(Scan {

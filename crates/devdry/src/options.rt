@@ -1,7 +1,6 @@
 //! Runs of words that name a file of options.
-ghost use Rattle.std.specs.Prelude.{◌≡◌, ◌⊎◌, IfErr, IfOk, map, option_map, string_bytes};
+ghost use Rattle.std.specs.Prelude.{◌⊎◌, IfErr, IfOk, map, option_map, string_bytes};
 ghost use Rattle.devdry_files.specs.Answers.Answer.{Content};
-ghost use Rattle.devdry_files.specs.FaultsAt.{fault_of};
 ghost use Rattle.devdry_words.specs.Options.{with_options};
 ghost use Rattle.devdry.specs.Options.{DoesByFile, IsFaultAt};
 ghost use Rattle.devdry.specs.Ran.{if_none};

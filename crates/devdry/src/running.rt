@@ -1,9 +1,7 @@
 //! The way from words to a status.
 ghost use Rattle.std.specs.Prelude.{◌≡◌, ◌⊎◌, IfErr, IfOk, map, string_bytes};
-ghost use Rattle.engine_ends.specs.Sinks.{SinkState};
-ghost use Rattle.engine_ends.specs.Sources.{SourceState};
 ghost use Rattle.devdry.specs.Reading.{AreReadFor, IsFaultOf, IsRefusedToRead};
-ghost use Rattle.devdry.specs.Runs.{DoesFrom, DoesRequest, FailsWanted, RunsAlone, RunsLine, RunsRead, RunsReading, RunsWanted, takes_blocks};
+ghost use Rattle.devdry.specs.Runs.{DoesFrom, DoesRequest, RunsAlone, RunsLine, RunsRead, RunsReading, RunsWanted, takes_blocks};
 
 use crate::comparing::run_compare;
 use crate::failing::fail_wanted;

@@ -7,9 +7,9 @@ use Rattle.text_tables.specs.Texts.{Text}
 use Rattle.json.specs.Json.{Json, null, string}
 use Rattle.text_json.specs.Values.{array_of, object_of}
 use Rattle.lsp_diagnostics.specs.Documents.{kind_of}
-use Rattle.lsp_labels.specs.Jumps.{definition_of, mark_at, references_of}
-use Rattle.lsp_labels.specs.MarkValues.{MarkValue}
-use Rattle.lsp_labels.specs.Marks.{marks_of}
+use Rattle.lsp_words.specs.Jumps.{definition_of, mark_at, references_of}
+use Rattle.lsp_words.specs.MarkValues.{MarkValue}
+use Rattle.lsp_words.specs.Marks.{marks_of}
 use Rattle.lsp_texts.specs.Rows.{rows_of}
 use Rattle.lsp_texts.specs.declared.counting.Encoding.{Encoding}
 use Rattle.lsp_answers.specs.Queries.{QueryValue}

@@ -5,10 +5,10 @@ use Rattle.json.specs.Json.{Json}
 use Rattle.text_json.specs.Told.{told}
 use Rattle.text_json.specs.Values.{array_of, number_value, object_of}
 use Rattle.lsp_diagnostics.specs.Documents.{kind_of}
-use Rattle.lsp_labels.specs.Symbols.{symbols_of}
-use Rattle.lsp_labels.specs.declared.symbols.Symbol.{Symbol}
-use Rattle.lsp_labels.specs.declared.symbols.SymbolKind.{SymbolKind}
-use Rattle.lsp_labels.specs.declared.symbols.SymbolKind.TheVariants.{Label, Record, Rule}
+use Rattle.lsp_words.specs.Symbols.{symbols_of}
+use Rattle.lsp_words.specs.declared.symbols.Symbol.{Symbol}
+use Rattle.lsp_words.specs.declared.symbols.SymbolKind.{SymbolKind}
+use Rattle.lsp_words.specs.declared.symbols.SymbolKind.TheVariants.{Label, Record, Rule}
 use Rattle.lsp_texts.specs.Rows.{rows_of}
 use Rattle.lsp_texts.specs.declared.counting.Encoding.{Encoding}
 use Rattle.lsp_answers.specs.Labels.{row_numbered}

@@ -10,8 +10,8 @@ use crate::queries::Query;
 use crate::spots::write_row_range;
 use json::Writer;
 use lsp_diagnostics::kind_of;
-use lsp_labels::{Symbol, SymbolKind, symbols_of};
 use lsp_texts::Encoding;
+use lsp_words::{Symbol, SymbolKind, symbols_of};
 use std::alloc::{AllocError, Global};
 use text_json::{write_number, write_told};
 

@@ -1,4 +1,9 @@
 pub mod Finding
 pub mod Found
+pub mod Jumping
+pub mod Outlines
 pub mod Reading
+pub mod Rising
+pub mod RowLemmas
 pub mod Standing
+pub mod Written

@@ -1,5 +1,0 @@
-pub mod Jumping
-pub mod RowLemmas
-pub mod Written
-pub mod Outlines
-pub mod Rising

@@ -1,7 +1,0 @@
-use Rattle.std.proofs.Common.{◌≡◌, [], fold}
-use Rattle.lsp_labels.specs.Rows.{items_in}
-use Rattle.lsp_labels.specs.Symbols.{with_item}
-use Rattle.lsp_labels.proofs.symbols.matched.Given as goal
-
-abbrev pub invariant-loop-item : goal.invariant-loop-item
-invariant-loop-item l = fold (with_item l.row) l.name.items l.item-iterator ≡ fold (with_item l.row) [] (items_in l.row)

@@ -1,7 +1,0 @@
-pub mod Rows
-pub mod MarkValues
-pub mod Marks
-pub mod Jumps
-pub mod Symbols
-pub mod Examples
-pub mod Laws

@@ -5,8 +5,8 @@ use Rattle.std.specs.Str.{bytes_eq}
 use Rattle.text_tables.specs.Pairs.{value_of}
 use Rattle.text_tables.specs.Texts.{Text}
 use Rattle.json.specs.Json.{Json}
-use Rattle.lsp_frames.specs.declared.frames.Item.{Item}
-use Rattle.lsp_frames.specs.declared.frames.Item.TheVariants.{Content, NoFrame, TooLong}
+use Rattle.lsp_sessions.specs.declared.frames.Item.{Item}
+use Rattle.lsp_sessions.specs.declared.frames.Item.TheVariants.{Content, NoFrame, TooLong}
 use Rattle.lsp_messages.specs.Changes.{changes_of}
 use Rattle.lsp_messages.specs.Messages.{MessageValue, invalid, message_of, notification, request, response}
 use Rattle.lsp_messages.specs.Parameters.{OpenedValue, opened_of, uri_of, version_of}

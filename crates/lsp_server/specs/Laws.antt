@@ -2,7 +2,7 @@
 use Rattle.std.specs.Prelude.{◌≡◌, ◌⊎◌, List, [], ◌∷◌, fold, Option, Some, codes}
 use Rattle.text_tables.specs.Texts.{Text}
 use Rattle.json.specs.Json.{Json}
-use Rattle.lsp_frames.specs.declared.frames.Item.{Item}
+use Rattle.lsp_sessions.specs.declared.frames.Item.{Item}
 use Rattle.lsp_messages.specs.Parameters.{OpenedValue, version_of}
 use Rattle.lsp_messages.specs.Responses.{error_of, response_of}
 use Rattle.lsp_messages.specs.declared.errors.ErrorCode.{ErrorCode}

@@ -4,8 +4,8 @@ use Rattle.text_tables.specs.Texts.{Text}
 use Rattle.json.specs.Json.{Json}
 use Rattle.json.specs.Print.{print}
 use Rattle.json.specs.Tree.{json_tokens}
-use Rattle.lsp_frames.specs.Framed.{framed}
-use Rattle.lsp_frames.specs.declared.frames.Item.{Item}
+use Rattle.lsp_sessions.specs.Framed.{framed}
+use Rattle.lsp_sessions.specs.declared.frames.Item.{Item}
 use Rattle.lsp_sessions.specs.declared.replying.Exit.{Exit}
 use Rattle.lsp_sessions.specs.declared.replying.Exit.TheVariants.{AfterShutdown, WithoutShutdown}
 use Rattle.lsp_sessions.specs.declared.replying.Reply.{Reply}

@@ -2,10 +2,10 @@
 use Rattle.std.proofs.Common.{◌≡◌, Option, Some, None, List, [], ◌∷◌, ◌++◌, refl, ap, sym, ◌∙◌, append_assoc}
 use Rattle.std.proofs.lemmas.List.{append-nil}
 use Rattle.text_tables.specs.Texts.{Text}
-use Rattle.lsp_frames.specs.Held.{start}
-use Rattle.lsp_frames.specs.Items.{held_after, items, items_after}
-use Rattle.lsp_frames.specs.declared.frames.Item.{Item}
-use Rattle.lsp_frames.proofs.ItemLemmas.{items_both}
+use Rattle.lsp_sessions.specs.Held.{start}
+use Rattle.lsp_sessions.specs.Items.{held_after, items, items_after}
+use Rattle.lsp_sessions.specs.declared.frames.Item.{Item}
+use Rattle.lsp_sessions.proofs.ItemLemmas.{items_both}
 use Rattle.lsp_sessions.specs.Servers.{IsFirstOf, Said, Server, led, moved, reply_to, said_of, said_to, unless_exit}
 use Rattle.lsp_sessions.specs.declared.replying.Exit.{Exit}
 

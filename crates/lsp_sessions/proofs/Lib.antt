@@ -1,4 +1,7 @@
-pub mod TakingLemmas
+pub mod HeaderEnds
+pub mod HeaderLemmas
 pub mod InputLemmas
-pub mod Serving
+pub mod ItemLemmas
 pub mod LawLemmas
+pub mod Serving
+pub mod TakingLemmas

@@ -5,9 +5,9 @@ use Rattle.std.proofs.lemmas.List.{append-nil, take_more, take-append-drop}
 use Rattle.text_tables.specs.Texts.{Text}
 use Rattle.engine_ends.specs.Sinks.{SinkState}
 use Rattle.engine_sessions.specs.Serves.{WritesOut}
-use Rattle.lsp_frames.specs.Held.{Held}
-use Rattle.lsp_frames.specs.Items.{Taken, items_after, taken}
-use Rattle.lsp_frames.specs.declared.frames.Item.{Item}
+use Rattle.lsp_sessions.specs.Held.{Held}
+use Rattle.lsp_sessions.specs.Items.{Taken, items_after, taken}
+use Rattle.lsp_sessions.specs.declared.frames.Item.{Item}
 use Rattle.lsp_sessions.specs.Servers.{IsFirstOf, Said, Server, acting, led, moved, reply_to, said_to, unless_exit}
 use Rattle.lsp_sessions.specs.Taking.{ExitsIn, GoesBy, Situation, StopsIn, StopsInReply, TakesBy, said_by, situation}
 use Rattle.lsp_sessions.specs.declared.replying.Exit.{Exit}

@@ -1,6 +1,11 @@
-pub mod Servers
+pub mod Examples
+pub mod FrameLaws
+pub mod Framed
+pub mod Headers
+pub mod Held
+pub mod Inputs
+pub mod Items
 pub mod Outcomes
 pub mod Runs
+pub mod Servers
 pub mod Taking
-pub mod Inputs
-pub mod Examples

@@ -3,8 +3,8 @@ use Rattle.std.specs.Prelude.{◌≡◌, ◌++◌, Option, Some, None}
 use Rattle.text_tables.specs.Texts.{Text}
 use Rattle.engine_ends.specs.Sinks.{BreaksOff, SinkState}
 use Rattle.engine_sessions.specs.Serves.{WritesOut}
-use Rattle.lsp_frames.specs.Held.{Held, start}
-use Rattle.lsp_frames.specs.Items.{items_after}
+use Rattle.lsp_sessions.specs.Held.{Held, start}
+use Rattle.lsp_sessions.specs.Items.{items_after}
 use Rattle.lsp_sessions.specs.Servers.{IsFirstOf, Said, Server, led, said_to}
 use Rattle.lsp_sessions.specs.declared.replying.Exit.{Exit}
 use Rattle.lsp_sessions.specs.declared.sending.SessionFault.{SessionFault}

@@ -3,11 +3,11 @@ ghost use Rattle.std.specs.Prelude.{◌≡◌};
 ghost use Rattle.lsp_sessions.specs.Inputs.{ServesInput};
 ghost use Rattle.lsp_sessions.specs.Servers.{acting};
 
+use crate::frames::Frames;
 use crate::replying::{Exit, Replying};
 use crate::sending::SessionFault;
 use crate::turning::{Next, turn};
 use engine_ends::{Sink, Source};
-use lsp_frames::Frames;
 use std::alloc::Global;
 
 /// The most turns over one input.

@@ -2,9 +2,9 @@
 ghost use Rattle.std.specs.Prelude.{◌≡◌, ◌≤◌, List, ◌++◌, None, Some, codes, flat_map, length, map};
 ghost use Rattle.std.specs.List.{AllByRecursion};
 ghost use Rattle.text_tables.specs.Texts.{Text};
-ghost use Rattle.lsp_frames.specs.Framed.{framed};
-ghost use Rattle.lsp_frames.specs.Items.{most_content};
-ghost use Rattle.lsp_frames.specs.declared.frames.Item.TheVariants as item;
+ghost use Rattle.lsp_sessions.specs.Framed.{framed};
+ghost use Rattle.lsp_sessions.specs.Items.{most_content};
+ghost use Rattle.lsp_sessions.specs.declared.frames.Item.TheVariants as item;
 ghost use Rattle.lsp_sessions.specs.Examples.{repeats};
 ghost use Rattle.lsp_sessions.specs.Servers.{IsFirstOf, acting, said_of, said_to};
 ghost use Rattle.lsp_sessions.specs.declared.replying.Exit.{Exit};
@@ -28,7 +28,7 @@ pub fn framed_contents_are_replied_to<S: Replying>()
 
 /// What a server says in whole sessions: a header part without a length is replied to as well, nothing is said after the exit,
 /// and a frame that has not ended is not replied to.
-#[tactic(auto, unfolding(lsp_frames::specs::Headers::content_length, text_bytes::specs::Numbers::decimal_below))]
+#[tactic(auto, unfolding(crate::specs::Headers::content_length, text_bytes::specs::Numbers::decimal_below))]
 pub fn some_sessions()
     ensures exits { said_of repeats (codes "Content-Length: 1\r\n\r\naX: 1\r\n\r\nContent-Length: 2\r\n\r\nbcContent-Length: 1\r\n\r\nd")
         ≡ record { text = codes "a?bc"; exit = Some AfterShutdown } }

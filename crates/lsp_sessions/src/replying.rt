@@ -1,9 +1,9 @@
 //! What replies to the items that a client sends.
 ghost use Rattle.std.specs.Prelude.{◌≡◌, IfOk, OnOk};
-ghost use Rattle.lsp_frames.specs.declared.frames.Item.{Item};
+ghost use Rattle.lsp_sessions.specs.declared.frames.Item.{Item};
 ghost use Rattle.lsp_sessions.specs.declared.replying.Reply.{Reply};
 
-use lsp_frames::Item;
+use crate::frames::Item;
 use std::alloc::{AllocError, Global};
 use text_bytes::Bytes;
 

@@ -3,9 +3,9 @@ ghost use Rattle.std.specs.Prelude.{◌≡◌, IfErr, IfOk, OnOk};
 ghost use Rattle.engine_sessions.specs.Serves.{WritesOut};
 ghost use Rattle.lsp_sessions.specs.Taking.{StopsInReply};
 
+use crate::frames::Item;
 use crate::replying::{Exit, Reply, Replying};
 use engine_ends::{DeviceFault, Sink, hand_on};
-use lsp_frames::Item;
 use std::alloc::Global;
 
 /// Why a session stops before its end.

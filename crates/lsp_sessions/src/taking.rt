@@ -3,10 +3,10 @@ ghost use Rattle.std.specs.Prelude.{◌≡◌, [], ◌∷◌, IfErr, IfOk};
 ghost use Rattle.lsp_sessions.specs.Servers.{acting};
 ghost use Rattle.lsp_sessions.specs.Taking.{StopsIn, TakesBy, situation};
 
+use crate::frames::Frames;
 use crate::replying::{Exit, Replying};
 use crate::sending::{SessionFault, send_reply};
 use engine_ends::Sink;
-use lsp_frames::Frames;
 use std::alloc::Global;
 
 /// Takes a byte, and replies to the item that it completes, if it completes one. Returns how the client exits, if it does.

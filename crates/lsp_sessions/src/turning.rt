@@ -4,11 +4,11 @@ ghost use Rattle.lsp_sessions.specs.Inputs.{TurnFails, Turns};
 ghost use Rattle.lsp_sessions.specs.Servers.{acting};
 ghost use Rattle.lsp_sessions.specs.Taking.{situation};
 
+use crate::frames::Frames;
 use crate::replying::{Exit, Replying};
 use crate::sending::SessionFault;
 use crate::taking::take_piece;
 use engine_ends::{DeviceFault, Sink, Source};
-use lsp_frames::Frames;
 use std::alloc::Global;
 
 /// The most bytes of a read.

@@ -1,7 +1,7 @@
 use Rattle.std.proofs.Common.{◌≡◌, ℕ, ◌≤◌, ap, subst, arith}
 use Rattle.std.proofs.lemmas.Result.{err_from_is_err_and}
 use Rattle.engine_sessions.specs.Inputs.{most_turns}
-use Rattle.lsp_frames.specs.Held.{Held}
+use Rattle.lsp_sessions.specs.Held.{Held}
 use Rattle.lsp_sessions.specs.Servers.{acting}
 use Rattle.lsp_sessions.specs.Taking.{situation}
 use Rattle.lsp_sessions.proofs.InputLemmas.{AfterTurns, ended, failed, gone_on, turns_at_start, used_up}

@@ -1,5 +1,5 @@
 use Rattle.std.proofs.Common.{ap}
-use Rattle.lsp_frames.proofs.ItemLemmas.{frames_read}
+use Rattle.lsp_sessions.proofs.ItemLemmas.{frames_read}
 use Rattle.lsp_sessions.specs.Servers.{acting, said_to}
 use Rattle.lsp_sessions.proofs.laws.framed_contents_are_replied_to.Goals as goal
 

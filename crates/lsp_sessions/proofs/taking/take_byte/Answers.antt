@@ -1,5 +1,5 @@
 use Rattle.std.proofs.Common.{Some, None}
-use Rattle.lsp_frames.specs.Items.{taken}
+use Rattle.lsp_sessions.specs.Items.{taken}
 use Rattle.lsp_sessions.specs.Servers.{acting}
 use Rattle.lsp_sessions.proofs.TakingLemmas.{at_field, goes-byte, reply_err, reply_ok, stops-byte}
 use Rattle.lsp_sessions.proofs.taking.take_byte.Goals as goal

@@ -3,7 +3,7 @@ ghost use Rattle.std.specs.Prelude.{◌≡◌, ◌==◌, ◌^◌, ◌<◌, ◌�
 ghost use Rattle.std.specs.Option.{ForSome};
 ghost use Rattle.std.specs.List.{after_last, before_last, suffix_len};
 ghost use Rattle.text_bytes.specs.Names.{colon};
-ghost use Rattle.lsp_frames.specs.Headers.{content_length, is_ended, is_length_line, is_length_name, length_of};
+ghost use Rattle.lsp_sessions.specs.Headers.{content_length, is_ended, is_length_line, is_length_name, length_of};
 
 use text_bytes::{decimal_below, first_line, trimmed, unindented};
 

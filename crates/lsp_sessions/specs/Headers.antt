@@ -6,7 +6,7 @@ use Rattle.text_bytes.specs.Lines.{lines}
 use Rattle.text_bytes.specs.Names.{colon}
 use Rattle.text_bytes.specs.Numbers.{decimal_below}
 use Rattle.text_bytes.specs.Texts.{trimmed, unindented}
-use Rattle.lsp_frames.specs.Framed.{header_end}
+use Rattle.lsp_sessions.specs.Framed.{header_end}
 
 -- whether a header part ends here
 abbrev pub is_ended : List ℕ → Bool

@@ -6,16 +6,16 @@ use Rattle.std.proofs.lemmas.Bool.Decides.{nat_tests}
 use Rattle.std.proofs.lemmas.Fmt.{decimal_by_steps, length-decimal-le}
 use Rattle.std.proofs.lemmas.List.{append-nil}
 use Rattle.text_bytes.specs.Names.{carriage_return, newline}
-use Rattle.lsp_frames.specs.Framed.{framed, header_end, header_of}
-use Rattle.lsp_frames.specs.Headers.{content_length, is_ended}
-use Rattle.lsp_frames.specs.Held.{Held, start}
-use Rattle.lsp_frames.specs.Held.Held.{Header, Content, Passing}
-use Rattle.lsp_frames.specs.Items.{Taken, completes, content_taken, headed, header_taken, held_after, holds, items, items_after, most_content, most_header, passed, taken}
-use Rattle.lsp_frames.specs.Laws.{HasNoNewline, HoldsLittle}
-use Rattle.lsp_frames.specs.declared.frames.Item.{Item}
-use Rattle.lsp_frames.specs.declared.frames.Item.TheVariants as item
-use Rattle.lsp_frames.proofs.HeaderEnds.{ended, goes_on, goes_on_line, twice}
-use Rattle.lsp_frames.proofs.HeaderLemmas.{gives, header_none}
+use Rattle.lsp_sessions.specs.Framed.{framed, header_end, header_of}
+use Rattle.lsp_sessions.specs.Headers.{content_length, is_ended}
+use Rattle.lsp_sessions.specs.Held.{Held, start}
+use Rattle.lsp_sessions.specs.Held.Held.{Header, Content, Passing}
+use Rattle.lsp_sessions.specs.Items.{Taken, completes, content_taken, headed, header_taken, held_after, holds, items, items_after, most_content, most_header, passed, taken}
+use Rattle.lsp_sessions.specs.FrameLaws.{HasNoNewline, HoldsLittle}
+use Rattle.lsp_sessions.specs.declared.frames.Item.{Item}
+use Rattle.lsp_sessions.specs.declared.frames.Item.TheVariants as item
+use Rattle.lsp_sessions.proofs.HeaderEnds.{ended, goes_on, goes_on_line, twice}
+use Rattle.lsp_sessions.proofs.HeaderLemmas.{gives, header_none}
 
 pub held_both : (held : Held) (first second : List ℕ) → held_after held (first ++ second) ≡ held_after (held_after held first) second
 held_both held [] second = refl

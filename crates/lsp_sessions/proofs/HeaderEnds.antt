@@ -4,8 +4,8 @@ use Rattle.std.proofs.lemmas.Bool.Decides.{Decides-eqb}
 use Rattle.std.proofs.lemmas.List.{same_from_push}
 use Rattle.std.proofs.lemmas.Slice.Eq.{ends_is}
 use Rattle.text_bytes.specs.Names.{carriage_return, newline}
-use Rattle.lsp_frames.specs.Framed.{header_end}
-use Rattle.lsp_frames.specs.Headers.{is_ended}
+use Rattle.lsp_sessions.specs.Framed.{header_end}
+use Rattle.lsp_sessions.specs.Headers.{is_ended}
 
 -- what holds of no fact is false
 not_true : (b : Bool) → (b ≡ true → ⊥) → b ≡ false

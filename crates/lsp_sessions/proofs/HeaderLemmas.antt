@@ -13,9 +13,9 @@ use Rattle.text_bytes.specs.Lines.{lines}
 use Rattle.text_bytes.specs.Names.{carriage_return, colon, newline, space, is_blank, is_whitespace}
 use Rattle.text_bytes.specs.Numbers.{decimal as number_of, decimal_after, decimal_below, is_digit}
 use Rattle.text_bytes.specs.Texts.{trimmed, unindented}
-use Rattle.lsp_frames.specs.Framed.{header_end, header_of}
-use Rattle.lsp_frames.specs.Headers.{content_length, is_length_line, is_length_name, length_after, length_of}
-use Rattle.lsp_frames.specs.Laws.{HasNoNewline}
+use Rattle.lsp_sessions.specs.Framed.{header_end, header_of}
+use Rattle.lsp_sessions.specs.Headers.{content_length, is_length_line, is_length_name, length_after, length_of}
+use Rattle.lsp_sessions.specs.FrameLaws.{HasNoNewline}
 
 own : IsNumeralModel (λ ds. list_all is_digit ds ≡ true) (decimal_after 0)
 own = numerals_by_fold _ (search rules) decimal_after (search rules)

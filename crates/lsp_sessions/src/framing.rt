@@ -1,6 +1,6 @@
 //! A content with its header part.
 ghost use Rattle.std.specs.Prelude.{◌≡◌, ◌++◌, OnOk};
-ghost use Rattle.lsp_frames.specs.Framed.{framed};
+ghost use Rattle.lsp_sessions.specs.Framed.{framed};
 
 use itoa::Buffer;
 use std::alloc::AllocError;

@@ -1,11 +1,11 @@
 //! What is true of frames. Each law is the contract of a function with an empty body.
 ghost use Rattle.std.specs.Prelude.{◌≡◌, ℕ, ◌+◌, ◌^◌, ◌<◌, ◌≤◌, List, [], ◌∷◌, ◌++◌, codes, flat_map, length, map};
 ghost use Rattle.std.specs.List.{AllByRecursion};
-ghost use Rattle.lsp_frames.specs.Framed.{framed};
-ghost use Rattle.lsp_frames.specs.Held.{Held, start};
-ghost use Rattle.lsp_frames.specs.Items.{held_after, items, items_after, most_content};
-ghost use Rattle.lsp_frames.specs.Laws.{HasNoNewline, HoldsLittle};
-ghost use Rattle.lsp_frames.specs.declared.frames.Item.TheVariants as item;
+ghost use Rattle.lsp_sessions.specs.Framed.{framed};
+ghost use Rattle.lsp_sessions.specs.Held.{Held, start};
+ghost use Rattle.lsp_sessions.specs.Items.{held_after, items, items_after, most_content};
+ghost use Rattle.lsp_sessions.specs.FrameLaws.{HasNoNewline, HoldsLittle};
+ghost use Rattle.lsp_sessions.specs.declared.frames.Item.TheVariants as item;
 
 /// In which pieces a text is read changes nothing: what is held after a text is all that counts for the text that follows.
 pub fn pieces_do_not_count()

@@ -2,9 +2,9 @@
 use Rattle.std.specs.Prelude.{◌≢◌, ℕ, ◌+◌, ◌<◌, ◌≤◌, List, length}
 use Rattle.std.specs.List.{AllByRecursion}
 use Rattle.text_bytes.specs.Names.{newline}
-use Rattle.lsp_frames.specs.Held.{Held}
-use Rattle.lsp_frames.specs.Held.Held.{Header, Content, Passing}
-use Rattle.lsp_frames.specs.Items.{most_content, most_header}
+use Rattle.lsp_sessions.specs.Held.{Held}
+use Rattle.lsp_sessions.specs.Held.Held.{Header, Content, Passing}
+use Rattle.lsp_sessions.specs.Items.{most_content, most_header}
 
 -- no byte of the text is a newline
 abbrev pub HasNoNewline : List ℕ → Type 0

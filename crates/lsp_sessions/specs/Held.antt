@@ -1,7 +1,7 @@
 -- What is held of frames between two bytes.
 use Rattle.std.specs.Prelude.{ℕ, List, []}
-use Rattle.lsp_frames.specs.declared.frames.Phase.{Phase}
-use Rattle.lsp_frames.specs.declared.frames.Phase.TheVariants as phase
+use Rattle.lsp_sessions.specs.declared.frames.Phase.{Phase}
+use Rattle.lsp_sessions.specs.declared.frames.Phase.TheVariants as phase
 
 -- The bytes of a header part that has not ended; how many bytes of a content are still to come, and those that came; how many bytes are
 -- still to be passed over.

@@ -1,8 +1,8 @@
 //! Frames that are taken byte by byte.
 ghost use Rattle.std.specs.Prelude.{◌≡◌, ◌<◌, ◌^◌, [], IfOk, OnErr};
 ghost use Rattle.std.specs.Option.{ForSome};
-ghost use Rattle.lsp_frames.specs.Held.{held_in, start};
-ghost use Rattle.lsp_frames.specs.Items.{content_taken, headed, header_taken, passed, taken};
+ghost use Rattle.lsp_sessions.specs.Held.{held_in, start};
+ghost use Rattle.lsp_sessions.specs.Items.{content_taken, headed, header_taken, passed, taken};
 
 use crate::headers::{content_length, is_ended};
 use std::alloc::{AllocError, Global};
@@ -46,7 +46,7 @@ pub struct Frames {
 }
 
 impl Model for Frames {
-    ghost use Rattle.lsp_frames.specs.Held.{Held, held_in};
+    ghost use Rattle.lsp_sessions.specs.Held.{Held, held_in};
 
     ghost Value = { Held };
 

@@ -1,11 +1,11 @@
 -- What is read of a text, byte by byte.
 use Rattle.std.specs.Prelude.{ℕ, ◌-◌, ◌==◌, List, [], ◌∷◌, ◌++◌, Option, Some, None, if◌then◌else◌, length, nat_le, nat_lt}
 use Rattle.std.specs.Option.{option_to_list}
-use Rattle.lsp_frames.specs.Headers.{content_length, is_ended}
-use Rattle.lsp_frames.specs.Held.{Held, start}
-use Rattle.lsp_frames.specs.Held.Held.{Header, Content, Passing}
-use Rattle.lsp_frames.specs.declared.frames.Item.{Item}
-use Rattle.lsp_frames.specs.declared.frames.Item.TheVariants as item
+use Rattle.lsp_sessions.specs.Headers.{content_length, is_ended}
+use Rattle.lsp_sessions.specs.Held.{Held, start}
+use Rattle.lsp_sessions.specs.Held.Held.{Header, Content, Passing}
+use Rattle.lsp_sessions.specs.declared.frames.Item.{Item}
+use Rattle.lsp_sessions.specs.declared.frames.Item.TheVariants as item
 
 -- the most bytes of a header part
 abbrev pub most_header : ℕ

@@ -1,3 +1,0 @@
-pub mod HeaderEnds
-pub mod HeaderLemmas
-pub mod ItemLemmas

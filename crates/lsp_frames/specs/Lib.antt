@@ -1,5 +1,0 @@
-pub mod Framed
-pub mod Headers
-pub mod Held
-pub mod Items
-pub mod Laws

@@ -2,9 +2,7 @@
 use Rattle.std.proofs.Common.{◌≡◌, length, map, refl}
 use Rattle.std.specs.Prelude.{Some}
 use Rattle.lsp_words.specs.Entries.{entry_at, fits}
-use Rattle.lsp_words.specs.Tables.{entries_of, action_rows, attribute_rows, builtin_rows, constant_rows, database_rows, device_property_rows, identity_property_rows}
-use Rattle.lsp_words.specs.Tables.{import_type_rows, input_database_rows, key_rows, letter_rows, match_rows, module_rows, operator_rows}
-use Rattle.lsp_words.specs.Tables.{option_rows, run_type_rows, substitution_rows, subsystem_rows, usb_attribute_rows, use_property_rows}
+use Rattle.lsp_words.specs.Tables.{entries_of}
 use Rattle.lsp_words.specs.declared.kinds.WordKind.{WordKind}
 use Rattle.lsp_words.specs.declared.kinds.WordKind.TheVariants as kind
 
@@ -13,67 +11,67 @@ abbrev pub AreFound : WordKind → Type 0
 AreFound k = map (λ row. entry_at (entries_of k) (length row.name) row.name) (entries_of k) ≡ map Some (entries_of k)
 
 key_found : AreFound kind.Key
-unfolding entries_of fits key_rows
+unfolding entries_of fits
 key_found = refl
 
 operator_found : AreFound kind.Operator
-unfolding entries_of fits operator_rows
+unfolding entries_of fits
 operator_found = refl
 
 import_type_found : AreFound kind.ImportType
-unfolding entries_of fits import_type_rows
+unfolding entries_of fits
 import_type_found = refl
 
 run_type_found : AreFound kind.RunType
-unfolding entries_of fits run_type_rows
+unfolding entries_of fits
 run_type_found = refl
 
 attribute_found : AreFound kind.Attribute
-unfolding entries_of fits usb_attribute_rows attribute_rows
+unfolding entries_of fits
 attribute_found = refl
 
 property_found : AreFound kind.Property
-unfolding entries_of fits device_property_rows identity_property_rows use_property_rows
+unfolding entries_of fits
 property_found = refl
 
 constant_found : AreFound kind.Constant
-unfolding entries_of fits constant_rows
+unfolding entries_of fits
 constant_found = refl
 
 module_found : AreFound kind.Module
-unfolding entries_of fits module_rows
+unfolding entries_of fits
 module_found = refl
 
 builtin_found : AreFound kind.Builtin
-unfolding entries_of fits builtin_rows
+unfolding entries_of fits
 builtin_found = refl
 
 rule_option_found : AreFound kind.RuleOption
-unfolding entries_of fits option_rows
+unfolding entries_of fits
 rule_option_found = refl
 
 action_found : AreFound kind.Action
-unfolding entries_of fits action_rows
+unfolding entries_of fits
 action_found = refl
 
 subsystem_found : AreFound kind.Subsystem
-unfolding entries_of fits subsystem_rows
+unfolding entries_of fits
 subsystem_found = refl
 
 substitution_found : AreFound kind.Substitution
-unfolding entries_of fits substitution_rows
+unfolding entries_of fits
 substitution_found = refl
 
 letter_found : AreFound kind.Letter
-unfolding entries_of fits letter_rows
+unfolding entries_of fits
 letter_found = refl
 
 match_found : AreFound kind.Match
-unfolding entries_of fits match_rows
+unfolding entries_of fits
 match_found = refl
 
 database_property_found : AreFound kind.DatabaseProperty
-unfolding entries_of fits input_database_rows database_rows
+unfolding entries_of fits
 database_property_found = refl
 
 -- the words of any kind are

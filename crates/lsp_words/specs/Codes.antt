@@ -1,23 +1,19 @@
 -- The code of a message at a place of a comment.
 use Rattle.std.specs.Prelude.{ℕ, ◌+◌, ◌-◌, Bool, false, ◌&&◌, ◌==◌, if◌then◌else◌, [], ◌∷◌, drop, length, take, Option, Some, None}
-use Rattle.std.specs.Char.{is_ascii_alphanumeric, is_ascii_digit, is_ascii_uppercase}
-use Rattle.std.specs.List.{list_all, list_any, prefix_len, suffix_len}
+use Rattle.std.specs.Char.{is_ascii_alphanumeric, is_ascii_uppercase}
+use Rattle.std.specs.List.{list_any, prefix_len, suffix_len}
 use Rattle.text_bytes.specs.Names.{hash}
+use Rattle.text_bytes.specs.Numbers.{is_decimal}
 use Rattle.text_bytes.specs.Texts.{begins_with, unindented}
 use Rattle.text_bytes.specs.declared.source_file.FileKind.{FileKind}
 use Rattle.text_bytes.specs.declared.source_file.FileKind.TheVariants as file
 use Rattle.text_tables.specs.Texts.{Text}
 use Rattle.lsp_words.specs.declared.codes.CodeWord.{CodeWord}
 
--- whether a text is digits, at least one
-abbrev pub are_digits : Text → Bool
-are_digits [] = false
-are_digits (digit ∷ more) = is_ascii_digit digit && list_all is_ascii_digit more
-
 -- whether a word is written like a code: a capital letter and a number
 abbrev pub is_code : Text → Bool
 is_code [] = false
-is_code (letter ∷ digits) = is_ascii_uppercase letter && are_digits digits
+is_code (letter ∷ digits) = is_ascii_uppercase letter && is_decimal digits
 
 -- whether the end of these bytes of a row is in a comment
 abbrev pub is_comment : FileKind → Text → Bool

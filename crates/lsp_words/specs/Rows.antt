@@ -1,8 +1,8 @@
 -- A row by itself.
-use Rattle.std.specs.Prelude.{ℕ, ◌-◌, Bool, List, [], length, take, drop, if◌then◌else◌}
+use Rattle.std.specs.Prelude.{ℕ, ◌-◌, Bool, List, [], take, drop, if◌then◌else◌}
 use Rattle.std.specs.List.{prefix_len}
 use Rattle.text_bytes.specs.Names.{backslash, hash}
-use Rattle.text_bytes.specs.Texts.{begins_with, ends_in, trimmed, unindented}
+use Rattle.text_bytes.specs.Texts.{begins_with, ends_in, trimmed, unindented, without_last}
 use Rattle.text_tables.specs.Texts.{Text}
 use Rattle.rule_tokens.specs.Grammar.{Item, is_gap_byte}
 use Rattle.rule_tokens.specs.Lines.{items_from}
@@ -13,7 +13,7 @@ is_comment row = begins_with hash (unindented row)
 
 -- what a row adds to its rule: nothing if it is a comment, else all but the backslash with which the rule goes on
 abbrev pub body : Text → Text
-body row = if is_comment row then [] else if ends_in backslash row then take (length row - 1) row else row
+body row = if is_comment row then [] else if ends_in backslash row then without_last row else row
 
 -- whether a rule goes on after a row; a comment changes nothing
 abbrev pub goes_on_after : (before : Bool) → Text → Bool

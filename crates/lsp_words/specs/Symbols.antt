@@ -1,9 +1,9 @@
 -- What an outline of a document lists.
-use Rattle.std.specs.Prelude.{ℕ, ◌+◌, ◌==◌, Bool, false, ◌&&◌, ◌||◌, not, List, [], ◌∷◌, ◌++◌, codes, filter_map, fold, take_while, if◌then◌else◌}
+use Rattle.std.specs.Prelude.{ℕ, ◌+◌, Bool, false, ◌&&◌, ◌||◌, not, List, [], ◌∷◌, ◌++◌, codes, filter_map, fold, if◌then◌else◌}
 use Rattle.std.specs.Prelude.{Option, Some, None, Ok, Err}
 use Rattle.text_bytes.specs.Names.{hash, space, tab}
 use Rattle.text_bytes.specs.Numbers.{capped}
-use Rattle.text_bytes.specs.Texts.{begins_with, first, is_empty, trimmed}
+use Rattle.text_bytes.specs.Texts.{begins_with, first, is_empty, trimmed, up_to}
 use Rattle.text_bytes.specs.declared.source_file.FileKind.{FileKind}
 use Rattle.text_bytes.specs.declared.source_file.FileKind.TheVariants.{Hwdb, Rules}
 use Rattle.text_tables.specs.Texts.{Text}
@@ -68,17 +68,9 @@ rule_symbol line row = named_rule line row (label_in row)
 unfoldable pub begun_rule : (line : ℕ) → (row : Text) → Option Symbol
 begun_rule line row = if is_shown (body row) then Some (rule_symbol line row) else None
 
--- whether a byte begins no comment
-abbrev pub is_plain_byte : ℕ → Bool
-is_plain_byte b = not (b == hash)
-
--- a text up to its first `#`
-abbrev pub before_comment : Text → Text
-before_comment text = take_while is_plain_byte text
-
 -- a row of a database file without its comment, and without the whitespace before that
 abbrev pub record_name : (row : Text) → Text
-record_name row = trimmed (before_comment row)
+record_name row = trimmed (up_to hash row)
 
 -- whether a text begins with a space or a tab
 abbrev pub is_indented : Text → Bool

@@ -20,101 +20,25 @@ use Rattle.lsp_words.specs.declared.matches.TheConstants.{MATCHES}
 use Rattle.lsp_words.specs.declared.input_database.TheConstants.{INPUT_DATABASE}
 use Rattle.lsp_words.specs.declared.database.TheConstants.{DATABASE}
 
--- all keys
-unfoldable pub key_rows : List Row
-key_rows = map (λ e. record { name = e.0.now; text = e.1.now }) KEYS
-
--- all operators
-unfoldable pub operator_rows : List Row
-operator_rows = map (λ e. record { name = e.0.now; text = e.1.now }) OPERATORS
-
--- all types of IMPORT
-unfoldable pub import_type_rows : List Row
-import_type_rows = map (λ e. record { name = e.0.now; text = e.1.now }) IMPORT_TYPES
-
--- all types of RUN
-unfoldable pub run_type_rows : List Row
-run_type_rows = map (λ e. record { name = e.0.now; text = e.1.now }) RUN_TYPES
-
--- the attributes of USB devices that are known
-unfoldable pub usb_attribute_rows : List Row
-usb_attribute_rows = map (λ e. record { name = e.0.now; text = e.1.now }) USB_ATTRIBUTES
-
--- the other attributes that are known
-unfoldable pub attribute_rows : List Row
-attribute_rows = map (λ e. record { name = e.0.now; text = e.1.now }) ATTRIBUTES
-
--- the properties of the event that are known, and of what the device says about itself
-unfoldable pub device_property_rows : List Row
-device_property_rows = map (λ e. record { name = e.0.now; text = e.1.now }) DEVICE_PROPERTIES
-
--- the properties that are known to tell a device from others
-unfoldable pub identity_property_rows : List Row
-identity_property_rows = map (λ e. record { name = e.0.now; text = e.1.now }) IDENTITY_PROPERTIES
-
--- the properties that are known to say what a device is used for
-unfoldable pub use_property_rows : List Row
-use_property_rows = map (λ e. record { name = e.0.now; text = e.1.now }) USE_PROPERTIES
-
--- all constants
-unfoldable pub constant_rows : List Row
-constant_rows = map (λ e. record { name = e.0.now; text = e.1.now }) CONSTANTS
-
--- the security modules that are known
-unfoldable pub module_rows : List Row
-module_rows = map (λ e. record { name = e.0.now; text = e.1.now }) MODULES
-
--- all builtins
-unfoldable pub builtin_rows : List Row
-builtin_rows = map (λ e. record { name = e.0.now; text = e.1.now }) BUILTINS
-
--- all options
-unfoldable pub option_rows : List Row
-option_rows = map (λ e. record { name = e.0.now; text = e.1.now }) OPTIONS
-
--- all actions
-unfoldable pub action_rows : List Row
-action_rows = map (λ e. record { name = e.0.now; text = e.1.now }) ACTIONS
-
--- the subsystems that are known
-unfoldable pub subsystem_rows : List Row
-subsystem_rows = map (λ e. record { name = e.0.now; text = e.1.now }) SUBSYSTEMS
-
--- all substitutions by their long names
-unfoldable pub substitution_rows : List Row
-substitution_rows = map (λ e. record { name = e.0.now; text = e.1.now }) SUBSTITUTIONS
-
--- all substitutions by their letters
-unfoldable pub letter_rows : List Row
-letter_rows = map (λ e. record { name = e.0.now; text = e.1.now }) LETTERS
-
--- the beginnings of matches that are known
-unfoldable pub match_rows : List Row
-match_rows = map (λ e. record { name = e.0.now; text = e.1.now }) MATCHES
-
--- the properties of database files that are known, for input devices and sensors
-unfoldable pub input_database_rows : List Row
-input_database_rows = map (λ e. record { name = e.0.now; text = e.1.now }) INPUT_DATABASE
-
--- the other properties of database files that are known
-unfoldable pub database_rows : List Row
-database_rows = map (λ e. record { name = e.0.now; text = e.1.now }) DATABASE
-
 -- the words of a kind
 unfoldable pub entries_of : WordKind → List Row
-entries_of kind.Key = key_rows
-entries_of kind.Operator = operator_rows
-entries_of kind.ImportType = import_type_rows
-entries_of kind.RunType = run_type_rows
-entries_of kind.Attribute = usb_attribute_rows ++ attribute_rows
-entries_of kind.Property = device_property_rows ++ (identity_property_rows ++ use_property_rows)
-entries_of kind.Constant = constant_rows
-entries_of kind.Module = module_rows
-entries_of kind.Builtin = builtin_rows
-entries_of kind.RuleOption = option_rows
-entries_of kind.Action = action_rows
-entries_of kind.Subsystem = subsystem_rows
-entries_of kind.Substitution = substitution_rows
-entries_of kind.Letter = letter_rows
-entries_of kind.Match = match_rows
-entries_of kind.DatabaseProperty = input_database_rows ++ database_rows
+entries_of kind.Key = map (λ e. record { name = e.0.now; text = e.1.now }) KEYS
+entries_of kind.Operator = map (λ e. record { name = e.0.now; text = e.1.now }) OPERATORS
+entries_of kind.ImportType = map (λ e. record { name = e.0.now; text = e.1.now }) IMPORT_TYPES
+entries_of kind.RunType = map (λ e. record { name = e.0.now; text = e.1.now }) RUN_TYPES
+entries_of kind.Attribute =
+    map (λ e. record { name = e.0.now; text = e.1.now }) USB_ATTRIBUTES ++ map (λ e. record { name = e.0.now; text = e.1.now }) ATTRIBUTES
+entries_of kind.Property =
+    map (λ e. record { name = e.0.now; text = e.1.now }) DEVICE_PROPERTIES
+    ++ (map (λ e. record { name = e.0.now; text = e.1.now }) IDENTITY_PROPERTIES ++ map (λ e. record { name = e.0.now; text = e.1.now }) USE_PROPERTIES)
+entries_of kind.Constant = map (λ e. record { name = e.0.now; text = e.1.now }) CONSTANTS
+entries_of kind.Module = map (λ e. record { name = e.0.now; text = e.1.now }) MODULES
+entries_of kind.Builtin = map (λ e. record { name = e.0.now; text = e.1.now }) BUILTINS
+entries_of kind.RuleOption = map (λ e. record { name = e.0.now; text = e.1.now }) OPTIONS
+entries_of kind.Action = map (λ e. record { name = e.0.now; text = e.1.now }) ACTIONS
+entries_of kind.Subsystem = map (λ e. record { name = e.0.now; text = e.1.now }) SUBSYSTEMS
+entries_of kind.Substitution = map (λ e. record { name = e.0.now; text = e.1.now }) SUBSTITUTIONS
+entries_of kind.Letter = map (λ e. record { name = e.0.now; text = e.1.now }) LETTERS
+entries_of kind.Match = map (λ e. record { name = e.0.now; text = e.1.now }) MATCHES
+entries_of kind.DatabaseProperty =
+    map (λ e. record { name = e.0.now; text = e.1.now }) INPUT_DATABASE ++ map (λ e. record { name = e.0.now; text = e.1.now }) DATABASE

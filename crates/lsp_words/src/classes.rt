@@ -2,7 +2,7 @@
 ghost use Rattle.std.specs.Prelude.{◌≡◌};
 ghost use Rattle.rule_tokens.specs.Grammar.{is_key_byte};
 ghost use Rattle.text_bytes.specs.Names.{is_blank};
-ghost use Rattle.lsp_words.specs.Classes.{class_of, is_operator_byte, is_sign};
+ghost use Rattle.lsp_words.specs.Classes.{class_of, is_operator_byte};
 
 use text_bytes::is_blank;
 
@@ -43,13 +43,6 @@ pub(crate) fn is_operator_byte(byte: u8) -> bool
     byte == b'=' || byte == b'!' || byte == b'+' || byte == b'-' || byte == b':'
 }
 
-/// Whether a byte begins a substitution.
-fn is_sign(byte: u8) -> bool
-    ensures { result ≡ is_sign byte }
-{
-    byte == b'$' || byte == b'%'
-}
-
 /// The class of a byte.
 #[tactic(auto, unfolding(crate::specs::Classes::class_of))]
 pub(crate) fn class_of(byte: u8) -> Class
@@ -73,7 +66,7 @@ pub(crate) fn class_of(byte: u8) -> Class
         Class::Hash
     } else if byte == b'|' {
         Class::Bar
-    } else if is_sign(byte) {
+    } else if byte == b'$' || byte == b'%' {
         Class::Sign
     } else {
         Class::Other

@@ -1,11 +1,11 @@
 //! The code at a place of a comment.
 ghost use Rattle.std.specs.Prelude.{◌≡◌, ◌≤◌, IfSome, drop, length, take};
-ghost use Rattle.std.specs.Char.{is_ascii_alphanumeric, is_ascii_digit};
-ghost use Rattle.std.specs.List.{list_all, prefix_len, suffix_len};
-ghost use Rattle.lsp_words.specs.Codes.{are_digits, code_at, is_code, is_comment};
+ghost use Rattle.std.specs.Char.{is_ascii_alphanumeric};
+ghost use Rattle.std.specs.List.{prefix_len, suffix_len};
+ghost use Rattle.lsp_words.specs.Codes.{code_at, is_code, is_comment};
 
 use crate::slots::has;
-use text_bytes::{FileKind, begins_with, unindented};
+use text_bytes::{FileKind, begins_with, is_decimal, unindented};
 
 /// Where a code stands in a row.
 #[derive(Clone, Copy, PartialEq, Eq)]
@@ -43,25 +43,8 @@ fn is_code(word: &[u8]) -> bool
 {
     match word.split_first() {
         None => false,
-        Some((letter, digits)) => letter.is_ascii_uppercase() && are_digits(digits),
+        Some((letter, digits)) => letter.is_ascii_uppercase() && is_decimal(digits),
     }
-}
-
-/// Whether a text is digits, at least one.
-fn are_digits(text: &[u8]) -> bool
-    ensures { result ≡ are_digits text.now }
-{
-    match text.split_first() {
-        None => false,
-        Some((first, more)) => first.is_ascii_digit() && all_digits(more),
-    }
-}
-
-/// Whether a text has nothing but digits.
-fn all_digits(text: &[u8]) -> bool
-    ensures { result ≡ list_all is_ascii_digit text.now }
-{
-    text.iter().all(|byte| byte.is_ascii_digit())
 }
 
 /// Whether the end of these bytes of a row is in a comment.

@@ -1,10 +1,8 @@
 //! Where in a row of a rules file a place is, by the bytes before it.
-ghost use Rattle.std.specs.Prelude.{◌≡◌, ◌≤◌, ◌<◌, ◌+◌, ◌==◌, [], length, slice_index, drop, take};
-ghost use Rattle.std.specs.List.{list_any};
-ghost use Rattle.lsp_words.specs.Contexts.{braces_after, key_after, name_after, next_move, operator_after, prefix_after, step, takes_letter, turned};
-ghost use Rattle.lsp_words.specs.Contexts.{at_start, bounds_for, context_of, ended, is_byte};
+ghost use Rattle.std.specs.Prelude.{◌≡◌, ◌≤◌, ◌<◌, ◌+◌, [], length, slice_index, drop, take};
+ghost use Rattle.lsp_words.specs.Contexts.{braces_after, key_after, name_after, next_move, operator_after, prefix_after, step, turned};
+ghost use Rattle.lsp_words.specs.Contexts.{at_start, bounds_for, context_of, ended};
 ghost use Rattle.lsp_words.specs.Scans.{seen};
-ghost use Rattle.rule_tokens.specs.Letters.{letter_e};
 
 use crate::classes::{Class, class_of};
 use crate::moves::{
@@ -38,29 +36,8 @@ fn bounds_for(key: &[u8], braces: &[u8], operator: &[u8], prefix: &[u8]) -> Boun
     Bounds {
         substitutes: substitutes(key, braces, operator),
         splits: is_split(key),
-        escapes: has_e(prefix),
+        escapes: prefix.contains(&b'e'),
     }
-}
-
-/// Whether a prefix has the letter of escapes.
-fn has_e(prefix: &[u8]) -> bool
-    ensures { result ≡ list_any (λ b. b == letter_e) prefix.now }
-{
-    prefix.contains(&b'e')
-}
-
-/// Whether a letter goes on with the name of a substitution.
-fn takes_letter(word: &[u8]) -> bool
-    ensures { result ≡ takes_letter word.now }
-{
-    begins_with(b'$', word) || word.len() == 1
-}
-
-/// Whether a word is one byte.
-fn is_byte(word: &[u8], byte: u8) -> bool
-    ensures { result ≡ is_byte word.now byte }
-{
-    word.len() == 1 && begins_with(byte, word)
 }
 
 /// Where a row goes on to at a byte.
@@ -97,8 +74,8 @@ fn next_move(place: Place, bounds: Bounds, word: &[u8], byte: u8, class: Class) 
         Place::Escape => in_escape(bounds, class),
         Place::Name => in_name(
             bounds,
-            is_byte(word, byte),
-            takes_letter(word),
+            word.len() == 1 && begins_with(byte, word),
+            begins_with(b'$', word) || word.len() == 1,
             1 < word.len(),
             class,
         ),

@@ -1,6 +1,6 @@
 //! The labels of a rules file and the jumps to them.
 ghost use Rattle.std.specs.Prelude.{◌≡◌, ◌++◌, IfOk, OnOk, map, option_map};
-ghost use Rattle.lsp_words.specs.Marks.{is_assign, is_plain, kind_of, mark_kind, mark_of, marks_in, marks_of, rule_of};
+ghost use Rattle.lsp_words.specs.Marks.{is_assign, kind_of, mark_kind, mark_of, marks_in, marks_of, rule_of};
 
 use crate::rows::{goes_on_after, tokens_in};
 use rule_tokens::{Operator, Token, TokenFault};
@@ -103,19 +103,12 @@ fn kind_of(key: &[u8]) -> Option<MarkKind>
     }
 }
 
-/// Whether a token has `=` and nothing in braces.
-fn is_plain(token: &Token<'_>) -> bool
-    ensures { result ≡ is_plain token.now.parts.head }
-{
-    is_assign(token.operator()) && token.attribute().is_none()
-}
-
 /// Which mark a token is, if it is one.
 #[tactic(auto, unfolding(crate::specs::Marks::mark_kind))]
 pub(crate) fn mark_kind(token: &Token<'_>) -> Option<MarkKind>
     ensures { result ≡ mark_kind token.now.parts.head }
 {
-    if is_plain(token) {
+    if is_assign(token.operator()) && token.attribute().is_none() {
         return kind_of(token.key());
     }
     None

@@ -1,11 +1,11 @@
 //! A row by itself.
-ghost use Rattle.std.specs.Prelude.{◌≡◌, ◌≤◌, drop, length, take};
+ghost use Rattle.std.specs.Prelude.{◌≡◌, ◌≤◌, length};
 ghost use Rattle.std.specs.List.{prefix_len};
 ghost use Rattle.rule_tokens.specs.Grammar.{is_gap_byte};
 ghost use Rattle.lsp_words.specs.Rows.{between, body, goes_on_after, is_comment, items_in, stripped};
 
 use rule_tokens::Tokens;
-use text_bytes::{begins_with, ends_in, is_blank, trimmed, unindented};
+use text_bytes::{begins_with, ends_in, is_blank, trimmed, unindented, without_last};
 
 /// Whether a row is a comment: its first byte that is no blank is `#`.
 fn is_comment(row: &[u8]) -> bool
@@ -23,7 +23,7 @@ pub(crate) fn body(row: &[u8]) -> &[u8]
         return &[];
     }
     if ends_in(b'\\', row) {
-        return row.split_at(row.len().saturating_sub(1)).0;
+        return without_last(row);
     }
     row
 }

@@ -1,14 +1,13 @@
 //! What an outline of a document lists.
-ghost use Rattle.std.specs.Prelude.{◌≡◌, ◌≤◌, IfOk, OnOk, length, map, option_map};
-ghost use Rattle.std.specs.List.{prefix_len};
-ghost use Rattle.lsp_words.specs.Symbols.{before_comment, begun_rule, is_indented, is_plain_byte, is_record, is_shown, label_in, label_of, matched};
+ghost use Rattle.std.specs.Prelude.{◌≡◌, IfOk, OnOk, map, option_map};
+ghost use Rattle.lsp_words.specs.Symbols.{begun_rule, is_shown, label_in, label_of, matched};
 ghost use Rattle.lsp_words.specs.Symbols.{record_name, record_symbol, rule_name, rule_symbol, symbol_in, symbols_of, with_item, with_match};
 
 use crate::marks::{MarkKind, mark_kind};
 use crate::rows::{between, body, goes_on_after, stripped, tokens_in};
 use rule_tokens::{Token, TokenFault};
 use std::alloc::{AllocError, Global};
-use text_bytes::{Bytes, FileKind, begins_with, capped, trimmed};
+use text_bytes::{Bytes, FileKind, begins_with, capped, trimmed, up_to};
 
 /// What an entry of an outline is.
 #[derive(Clone, Copy, Debug, PartialEq, Eq)]
@@ -150,43 +149,7 @@ fn begun_rule(alloc: Global, line: u32, row: &[u8]) -> Result<Option<Symbol>, Al
 fn record_name(row: &[u8]) -> &[u8]
     ensures { result.now ≡ record_name row.now }
 {
-    trimmed(before_comment(row))
-}
-
-/// A text up to its first `#`.
-fn before_comment(text: &[u8]) -> &[u8]
-    ensures { result.now ≡ before_comment text.now }
-{
-    text.split_at(comment_place(text)).0
-}
-
-/// How many bytes come before the first `#` of a text.
-fn comment_place(text: &[u8]) -> usize
-    ensures value { result ≡ prefix_len is_plain_byte text.now }
-    ensures within { result ≤ length text.now }
-{
-    text.iter().take_while(|byte| is_plain_byte(**byte)).count()
-}
-
-/// Whether a byte begins no comment.
-fn is_plain_byte(byte: u8) -> bool
-    ensures { result ≡ is_plain_byte byte }
-{
-    byte != b'#'
-}
-
-/// Whether a text begins with a space or a tab.
-fn is_indented(text: &[u8]) -> bool
-    ensures { result ≡ is_indented text.now }
-{
-    begins_with(b' ', text) || begins_with(b'\t', text)
-}
-
-/// Whether a row of a database file is a match.
-fn is_record(row: &[u8]) -> bool
-    ensures { result ≡ is_record row.now }
-{
-    !is_indented(row) && is_shown(record_name(row))
+    trimmed(up_to(b'#', row))
 }
 
 /// The entry of a row of a database file, if it is a match.
@@ -194,13 +157,14 @@ fn is_record(row: &[u8]) -> bool
 fn record_symbol(alloc: Global, line: u32, row: &[u8]) -> Result<Option<Symbol>, AllocError>
     ensures { IfOk result (λ symbol. symbol ≡ record_symbol line row.now) }
 {
-    if !is_record(row) {
+    let name = record_name(row);
+    if begins_with(b' ', row) || begins_with(b'\t', row) || !is_shown(name) {
         return Ok(None);
     }
     Ok(Some(Symbol {
         kind: SymbolKind::Record,
         line,
-        name: Bytes::copy_of(alloc, record_name(row))?,
+        name: Bytes::copy_of(alloc, name)?,
     }))
 }
 

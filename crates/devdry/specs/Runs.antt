@@ -11,7 +11,7 @@ use Rattle.engine_ends.specs.Sources.{SourceState}
 use Rattle.engine_ends.specs.Streams.{Streams, outputs}
 use Rattle.devdry_files.specs.Answers.Answer.{Content}
 use Rattle.devdry_folders.specs.declared.reading.Report.{Report}
-use Rattle.devdry_link_checks.specs.Running.{ChecksLinks}
+use Rattle.devdry_links.specs.Running.{ChecksLinks}
 use Rattle.devdry_input.specs.Beside.{MayBeside}
 use Rattle.devdry_input.specs.Whole.{ReadsNot, ReadsWhole}
 use Rattle.devdry_input.specs.declared.reading.InputFault.{InputFault}

@@ -11,7 +11,7 @@ use crate::piping::run_piped;
 use crate::reporting::report_line_fault;
 use crate::terminals::{Terminals, shown_request};
 use devdry_files::{Disk, ReadFault, read_all, read_index, wanted};
-use devdry_link_checks::run_link_checks;
+use devdry_links::run_link_checks;
 use devdry_words::parse_line;
 use engine_ends::{DeviceFault, Line, Request, Sink, Source, Verb, hand_on, report_out_of_memory};
 use std::alloc::Global;

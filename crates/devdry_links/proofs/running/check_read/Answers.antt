@@ -1,6 +1,6 @@
 use Rattle.std.proofs.Common.{◌≡◌, inl, rules, subst}
 use Rattle.engine_ends.specs.Sinks.{HandsOn}
-use Rattle.devdry_link_checks.proofs.running.check_read.Goals as goal
+use Rattle.devdry_links.proofs.running.check_read.Goals as goal
 
 pub returns-in-Ok : goal.returns-in-Ok
 returns-in-Ok g c =

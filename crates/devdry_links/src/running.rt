@@ -1,11 +1,11 @@
 //! The run of `verify --links`.
 ghost use Rattle.std.specs.Prelude.{IfOk};
-ghost use Rattle.devdry_link_checks.specs.Running.{AreNamed, AreRead, ChecksAfter, ChecksLinks};
+ghost use Rattle.devdry_links.specs.Running.{AreNamed, AreRead, ChecksAfter, ChecksLinks};
 ghost use Rattle.engine_checks.specs.Links.{links_outcome};
 
+use crate::checking::{LinksToCheck, read_links_to_check};
 use devdry_files::Disk;
 use devdry_folders::read_files_that_can;
-use devdry_links::{LinksToCheck, read_links_to_check};
 use engine_checks::serve_links;
 use engine_ends::{DeviceFault, Line, Sink, hand_on, report_out_of_memory};
 use std::alloc::{AllocError, Global};

@@ -22,9 +22,10 @@ use Rattle.engine_reports.specs.Reports.{IsRefused, IsReport, IsSaid}
 use Rattle.engine_reports.specs.declared.report.Report.{Report}
 use Rattle.engine_reports.specs.declared.refusal.Refusal.{Refusal}
 use Rattle.engine_reports.specs.declared.refusal.Refusal.TheVariants.{TooManyEntries, TooManyRules, Index, Memory}
+use Rattle.engine_sessions.specs.Outcomes.{input_outcome}
 use Rattle.engine_sessions.specs.Serves.{AnswersAll, Serves, StopsBefore}
 use Rattle.engine_sessions.specs.Sessions.{answers_as}
-use Rattle.engine_sessions.specs.Tallies.{SaysAll, events_of}
+use Rattle.engine_sessions.specs.Tallies.{SaysAll, events_of, with_said}
 use Rattle.engine_sessions.proofs.Saying.{said_serve}
 use Rattle.engine_unused.specs.Rows.{TallyValue, counted, unreached}
 use Rattle.engine_unused.specs.Unused.{lines_by, rules_named, unused_lines}
@@ -32,17 +33,23 @@ use Rattle.engine_sessions.proofs.Serving.{answers_serve, reports_serve}
 use Rattle.builtin_core.specs.Builtins.{Held, known_by}
 use Rattle.engine_answers.specs.Answers.{answer_by}
 use Rattle.engine_courses.specs.Questions.{question_answer}
-use Rattle.engine_core.specs.Outcomes.{added_of, answer_by_line, answer_with, asked_of, asks_more, before_input, known_for, outcome, outcome_by, outcome_saying, reads_modaliases, reported_for, unused_of}
-use Rattle.engine_core.specs.Runs.{AnswersSaying, RunsBy}
+use Rattle.engine_core.specs.Outcomes.{added_of, answer_by_line, answer_with, asked_of, asks_more, before_input, known_for, outcome, outcome_by, reads_modaliases, reported_for, unused_of}
+use Rattle.engine_core.specs.Runs.{AnswersBy, RunsBy}
 use Rattle.engine_core.specs.Reported.{ReportedValue, reported_by}
 
-saying_serve : (unused for_people : Bool) (messages : Text) (answer : EventValue → Text) (says : Text → Text) (status : ℕ) (before now : Streams) → AnswersSaying unused for_people messages answer says status before now
-    → Serves (outcome_saying unused for_people messages answer says) status before now
-saying_serve true for_people messages answer says status before now r = said_serve for_people messages answer says status before now r
-saying_serve false for_people messages answer says status before now r = answers_serve for_people messages answer status before now r
+-- the outcome of the answers of an opening to an input
+abbrev answered : Line → FilesFound → OpeningValue → Text → RunOutcome
+answered line found opening = input_outcome (is_for_people line.format) opening.messages (answer_with line found opening)
+
+opening_serves : (line : Line) (found : FilesFound) (opening : OpeningValue) (status : ℕ) (before now : Streams) → AnswersBy line found opening status before now → Serves (outcome_by line found (Ok opening)) status before now
+opening_serves line found opening status before now r = by line.unused refl
+  where
+    by : (v : Bool) → line.unused ≡ v → Serves (λ input. cond v (with_said (unused_of line found opening input) (answered line found opening input)) (answered line found opening input)) status before now
+    by true e = said_serve (is_for_people line.format) opening.messages (answer_with line found opening) (unused_of line found opening) status before now (r.says e)
+    by false e = answers_serve (is_for_people line.format) opening.messages (answer_with line found opening) status before now (r.answers e)
 
 runs_serve : (line : Line) (found : FilesFound) (opened : Result OpeningValue RunOutcome) (status : ℕ) (before now : Streams) → RunsBy line found opened status before now → Serves (outcome_by line found opened) status before now
-runs_serve line found (Ok opening) status before now r = saying_serve line.unused (is_for_people line.format) opening.messages (answer_with line found opening) (unused_of line found opening) status before now r
+runs_serve line found (Ok opening) status before now r = opening_serves line found opening status before now r
 runs_serve line found (Err said) status before now r = reports_serve (λ text. said) said status before now (λ text. refl) r
 
 lookups_serve : (line : Line) (read : Result DatabaseValue RunOutcome) (status : ℕ) (before now : Streams) → LooksUpBy line read status before now → Serves (lookups_by line read) status before now
@@ -68,11 +75,6 @@ pub report_runs : (line : Line) (found : FilesFound) (begun : Result OpeningValu
     → ReportsFaults status (outputs before) (outputs now) → IsReport said report → now.input ≡ before.input → RunsBy line found begun status before now
 report_runs line found begun said report status before now e delivers faults is unread = rw e (record { delivers = delivers said is; faults = faults; unread = unread })
 
--- nothing is answered
-pub stopped : (unused for_people : Bool) (messages : Text) (answer : EventValue → Text) (says : Text → Text) (status : ℕ) (before now : Streams) → StopsBefore messages status before now → AnswersSaying unused for_people messages answer says status before now
-stopped true for_people messages answer says status before now s = inl s
-stopped false for_people messages answer says status before now s = inl s
-
 -- what there is to say if events can't be answered
 pub refused_runs : (line : Line) (found : FilesFound) (refusal : Refusal) (opened : Result OpeningValue RunOutcome) (status : ℕ) (before now : Streams) → IsRefused refusal opened
     → ((outcome : RunOutcome) → IsSaid refusal outcome → Delivers outcome status (outputs before) (outputs now)) → ReportsFaults status (outputs before) (outputs now)
@@ -81,7 +83,8 @@ refused_runs line found TooManyEntries opened status before now is delivers faul
 refused_runs line found TooManyRules opened status before now is delivers faults memory unread = rw is (record { delivers = delivers too_many_rules refl; faults = faults; unread = unread })
 refused_runs line found (Index fault) opened status before now is delivers faults memory unread = rw is (record { delivers = delivers (refused_index fault) refl; faults = faults; unread = unread })
 refused_runs line found Memory (Ok opening) status before now is delivers faults memory unread =
-    stopped line.unused (is_for_people line.format) opening.messages (answer_with line found opening) (unused_of line found opening) status before now (record { unread = unread; unanswered = (memory refl).1; reports = inr (memory refl).0 })
+    let stops : StopsBefore opening.messages status before now = record { unread = unread; unanswered = (memory refl).1; reports = inr (memory refl).0 } in
+    record { says = λ e. inl stops; answers = λ e. inl stops }
 refused_runs line found Memory (Err said) status before now is delivers faults memory unread = record { delivers = delivers said tt; faults = faults; unread = unread }
 
 -- what refuses an opening is said whatever is asked for
@@ -93,11 +96,15 @@ asked_refused Memory why opened is = tt
 
 -- events that are answered by what the line asks for are answered as it asks, and what is said is what it asks for
 answered_runs : (line : Line) (found : FilesFound) (opening : OpeningValue) (messages : Text) (answer : EventValue → Text) (says : Text → Text) (status : ℕ) (before now : Streams) → messages ≡ opening.messages → answer ≡ answer_by_line line found opening → says ≡ unused_of line found opening
-    → AnswersSaying line.unused (is_for_people line.format) messages (answers_as line.profile answer) says status before now → AnswersSaying line.unused (is_for_people line.format) opening.messages (answer_with line found opening) (unused_of line found opening) status before now
-answered_runs line found opening messages answer says status before now m a u h =
-    subst (λ t. AnswersSaying line.unused (is_for_people line.format) t (answer_with line found opening) (unused_of line found opening) status before now) m
-    (subst (λ (f : EventValue → Text). AnswersSaying line.unused (is_for_people line.format) messages (answers_as line.profile f) (unused_of line found opening) status before now) a
-    (subst (λ (f : Text → Text). AnswersSaying line.unused (is_for_people line.format) messages (answers_as line.profile answer) f status before now) u h))
+    → (line.unused ≡ true → SaysAll (is_for_people line.format) messages (answers_as line.profile answer) says status before now)
+    → (line.unused ≡ false → AnswersAll (is_for_people line.format) messages (answers_as line.profile answer) status before now) → AnswersBy line found opening status before now
+answered_runs line found opening messages answer says status before now m a u s h = record {
+  says = λ e. subst (λ t. SaysAll (is_for_people line.format) t (answer_with line found opening) (unused_of line found opening) status before now) m
+      (subst (λ (f : EventValue → Text). SaysAll (is_for_people line.format) messages (answers_as line.profile f) (unused_of line found opening) status before now) a
+      (subst (λ (f : Text → Text). SaysAll (is_for_people line.format) messages (answers_as line.profile answer) f status before now) u (s e)));
+  answers = λ e. subst (λ t. AnswersAll (is_for_people line.format) t (answer_with line found opening) status before now) m
+      (subst (λ (f : EventValue → Text). AnswersAll (is_for_people line.format) messages (answers_as line.profile f) status before now) a (h e));
+}
 
 -- what is said by rules and what is known
 abbrev said_by : Line → List Rule → Held → Text → Text
@@ -106,20 +113,22 @@ said_by line rules held text = unused_lines (added_of line) rules (known_by held
 -- a line that asks for questions is answered with these
 pub asked_runs : (line : Line) (found : FilesFound) (opening : OpeningValue) (messages : Text) (tables : List Rule × Held) (rules : List Rule) (held : Held) (status : ℕ) (before now : Streams) → line.questions ≡ true → messages ≡ opening.messages
     → tables ≡ (opening.rules, record { links = line.links.items; files = found; entries = opening.entries }) → rules ≡ tables.0 → held ≡ tables.1
-    → AnswersSaying line.unused (is_for_people line.format) messages (answers_as line.profile (question_answer tables.0 (known_by tables.1))) (said_by line rules held) status before now
-    → AnswersSaying line.unused (is_for_people line.format) opening.messages (answer_with line found opening) (unused_of line found opening) status before now
-asked_runs line found opening messages tables rules held status before now q m t r k h =
+    → (line.unused ≡ true → SaysAll (is_for_people line.format) messages (answers_as line.profile (question_answer tables.0 (known_by tables.1))) (said_by line rules held) status before now)
+    → (line.unused ≡ false → AnswersAll (is_for_people line.format) messages (answers_as line.profile (question_answer tables.0 (known_by tables.1))) status before now)
+    → AnswersBy line found opening status before now
+asked_runs line found opening messages tables rules held status before now q m t r k s h =
     let other : EventValue → Text = cond (asks_more line) (reported_by (reported_for line opening) (known_for line found opening)) (answer_by opening.rules (known_for line found opening)) in
     answered_runs line found opening messages (question_answer tables.0 (known_by tables.1)) (said_by line rules held) status before now m
     (ap (λ (t : List Rule × Held). question_answer t.0 (known_by t.1)) t ∙ ap (λ b. cond b (question_answer opening.rules (known_for line found opening)) other) (sym q))
-    (ap (λ x. said_by line x held) r ∙ ap (said_by line tables.0) k ∙ ap (λ (t : List Rule × Held). said_by line t.0 t.1) t) h
+    (ap (λ x. said_by line x held) r ∙ ap (said_by line tables.0) k ∙ ap (λ (t : List Rule × Held). said_by line t.0 t.1) t) s h
 
 -- a line that asks for more is answered with that
 pub reported_runs : (line : Line) (found : FilesFound) (opening : OpeningValue) (messages : Text) (tables : ReportedValue × Held) (rules : List Rule) (held : Held) (status : ℕ) (before now : Streams) → line.questions ≡ false → asks_more line ≡ true → messages ≡ opening.messages
     → tables ≡ (reported_for line opening, record { links = line.links.items; files = found; entries = opening.entries }) → rules ≡ tables.0.rules → held ≡ tables.1
-    → AnswersSaying line.unused (is_for_people line.format) messages (answers_as line.profile (reported_by tables.0 (known_by tables.1))) (said_by line rules held) status before now
-    → AnswersSaying line.unused (is_for_people line.format) opening.messages (answer_with line found opening) (unused_of line found opening) status before now
-reported_runs line found opening messages tables rules held status before now q a m t r k h =
+    → (line.unused ≡ true → SaysAll (is_for_people line.format) messages (answers_as line.profile (reported_by tables.0 (known_by tables.1))) (said_by line rules held) status before now)
+    → (line.unused ≡ false → AnswersAll (is_for_people line.format) messages (answers_as line.profile (reported_by tables.0 (known_by tables.1))) status before now)
+    → AnswersBy line found opening status before now
+reported_runs line found opening messages tables rules held status before now q a m t r k s h =
     let asked : EventValue → Text = question_answer opening.rules (known_for line found opening) in
     let more : EventValue → Text = reported_by (reported_for line opening) (known_for line found opening) in
     let alone : EventValue → Text = answer_by opening.rules (known_for line found opening) in
@@ -127,14 +136,15 @@ reported_runs line found opening messages tables rules held status before now q 
     (ap (λ (t : ReportedValue × Held). reported_by t.0 (known_by t.1)) t
     ∙ ap (λ b. cond b more alone) (sym a)
     ∙ ap (λ b. cond b asked (cond (asks_more line) more alone)) (sym q))
-    (ap (λ x. said_by line x held) r ∙ ap (said_by line tables.0.rules) k ∙ ap (λ (t : ReportedValue × Held). said_by line t.0.rules t.1) t) h
+    (ap (λ x. said_by line x held) r ∙ ap (said_by line tables.0.rules) k ∙ ap (λ (t : ReportedValue × Held). said_by line t.0.rules t.1) t) s h
 
 -- any other line is answered alone
 pub alone_runs : (line : Line) (found : FilesFound) (opening : OpeningValue) (messages : Text) (tables : List Rule × Held) (rules : List Rule) (held : Held) (status : ℕ) (before now : Streams) → line.questions ≡ false → asks_more line ≡ false → messages ≡ opening.messages
     → tables ≡ (opening.rules, record { links = line.links.items; files = found; entries = opening.entries }) → rules ≡ tables.0 → held ≡ tables.1
-    → AnswersSaying line.unused (is_for_people line.format) messages (answers_as line.profile (answer_by tables.0 (known_by tables.1))) (said_by line rules held) status before now
-    → AnswersSaying line.unused (is_for_people line.format) opening.messages (answer_with line found opening) (unused_of line found opening) status before now
-alone_runs line found opening messages tables rules held status before now q a m t r k h =
+    → (line.unused ≡ true → SaysAll (is_for_people line.format) messages (answers_as line.profile (answer_by tables.0 (known_by tables.1))) (said_by line rules held) status before now)
+    → (line.unused ≡ false → AnswersAll (is_for_people line.format) messages (answers_as line.profile (answer_by tables.0 (known_by tables.1))) status before now)
+    → AnswersBy line found opening status before now
+alone_runs line found opening messages tables rules held status before now q a m t r k s h =
     let asked : EventValue → Text = question_answer opening.rules (known_for line found opening) in
     let more : EventValue → Text = reported_by (reported_for line opening) (known_for line found opening) in
     let alone : EventValue → Text = answer_by opening.rules (known_for line found opening) in
@@ -142,15 +152,7 @@ alone_runs line found opening messages tables rules held status before now q a m
     (ap (λ (t : List Rule × Held). answer_by t.0 (known_by t.1)) t
     ∙ ap (λ b. cond b more alone) (sym a)
     ∙ ap (λ b. cond b asked (cond (asks_more line) more alone)) (sym q))
-    (ap (λ x. said_by line x held) r ∙ ap (said_by line tables.0) k ∙ ap (λ (t : List Rule × Held). said_by line t.0 t.1) t) h
-
--- nothing is said after the answers, or something is
-pub unsaid : (unused for_people : Bool) (messages : Text) (answer : EventValue → Text) (says : Text → Text) (status : ℕ) (before now : Streams) → unused ≡ false → AnswersAll for_people messages answer status before now → AnswersSaying unused for_people messages answer says status before now
-unsaid unused for_people messages answer says status before now u h = subst (λ b. AnswersSaying b for_people messages answer says status before now) (sym u) h
-
-pub said : (unused for_people : Bool) (messages : Text) (answer : EventValue → Text) (some says : Text → Text) (status : ℕ) (before now : Streams) → unused ≡ true → some ≡ says → SaysAll for_people messages answer some status before now → AnswersSaying unused for_people messages answer says status before now
-said unused for_people messages answer some says status before now u s h =
-    subst (λ b. AnswersSaying b for_people messages answer says status before now) (sym u) (subst (λ (f : Text → Text). SaysAll for_people messages answer f status before now) s h)
+    (ap (λ x. said_by line x held) r ∙ ap (said_by line tables.0) k ∙ ap (λ (t : List Rule × Held). said_by line t.0 t.1) t) s h
 
 -- what a tally of rules says
 pub tally_says : {K : Type 0} (known : K → Known) (added : List Text) (rules : List Rule) (knowledge : K) (tally : TallyValue K) (profile : Profile)

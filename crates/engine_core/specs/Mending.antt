@@ -29,15 +29,15 @@ abbrev pub changed_names : List SourceFile → Text
 changed_names files = flat_map changed_line files
 
 -- the answer about files: their texts mended, or the names of those that this changes
-abbrev pub answer : Bool → List SourceFile → Text
+abbrev pub answer : (check : Bool) → List SourceFile → Text
 answer check files = if check then changed_names files else mended_texts files
 
 -- the status after an answer: 1 if names are asked for and there is one
-abbrev pub status_of : Bool → Text → ℕ
+abbrev pub status_of : (check : Bool) → Text → ℕ
 status_of check text = if check && not (is_empty text) then 1 else 0
 
 -- what is said about files that are read
-abbrev pub said_of : Bool → List SourceFile → RunOutcome
+abbrev pub said_of : (check : Bool) → List SourceFile → RunOutcome
 said_of check files = record { output = answer check files; messages = []; status = status_of check (answer check files) }
 
 -- what `fmt` says about the files passed in: their texts mended, or the names of those that this changes

@@ -98,17 +98,12 @@ before_input Verify line files opened = Err (verify_said line files)
 before_input Mend line files opened = Err (mend_said line files)
 before_input Events line files opened = asked_of (why_of line) (opening line files opened)
 
--- the outcome of answers to an input after messages, and of what is said after them, if something is; a faulty block is
--- reported for people or not
-abbrev pub outcome_saying : Bool → (for_people : Bool) → (messages : Text) → (EventValue → Text) → (says : Text → Text) → Text → RunOutcome
-outcome_saying true for_people messages answer says input = with_said (says input) (input_outcome for_people messages answer input)
-outcome_saying false for_people messages answer says input = input_outcome for_people messages answer input
-
 -- the outcome of a run over an input: the messages of its opening and the answers to the blocks of the input, with the
 -- rules that are unused after them if the line asks for that; or what is said without looking at the input
 abbrev pub outcome_by : Line → FilesFound → Result OpeningValue RunOutcome → Text → RunOutcome
 outcome_by line found (Ok opening) input =
-    outcome_saying line.unused (is_for_people line.format) opening.messages (answer_with line found opening) (unused_of line found opening) input
+    let answered = input_outcome (is_for_people line.format) opening.messages (answer_with line found opening) input in
+    if line.unused then with_said (unused_of line found opening input) answered else answered
 outcome_by line found (Err said) input = said
 
 -- whether a verb is `query`

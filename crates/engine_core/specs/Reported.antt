@@ -21,7 +21,7 @@ pub record ReportedValue : Type 0 where
   pub rules : List Rule
 
 -- the lines of an answer, with sources or without
-abbrev pub lines_reported : Bool → List Rule → Known → EventValue → Text
+abbrev pub lines_reported : (sources : Bool) → List Rule → Known → EventValue → Text
 lines_reported sources rules known event =
     if sources then sourced_lines rules known event else answer_lines event (whole_outcome rules known event)
 

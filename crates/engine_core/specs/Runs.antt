@@ -1,5 +1,5 @@
 -- A run step by step.
-use Rattle.std.specs.Prelude.{◌≡◌, ℕ, Bool, true, false, List, Option, Result, Ok, Err}
+use Rattle.std.specs.Prelude.{◌≡◌, ℕ, true, false, List, Option, Result, Ok, Err}
 use Rattle.text_bytes.specs.declared.source_file.SourceFile.{SourceFile}
 use Rattle.text_tables.specs.Texts.{Text}
 use Rattle.index_reading.specs.declared.fault.IndexFault.{IndexFault}
@@ -13,20 +13,21 @@ use Rattle.engine_lookups.specs.Databases.{LooksUpBy}
 use Rattle.engine_reports.specs.Databases.{database}
 use Rattle.engine_reports.specs.Indexes.{Opens}
 use Rattle.engine_reports.specs.Openings.{OpeningValue}
-use Rattle.device_core.specs.Values.{EventValue}
 use Rattle.engine_sessions.specs.Serves.{AnswersAll, Reports, Serves}
 use Rattle.engine_sessions.specs.Tallies.{SaysAll}
 use Rattle.engine_core.specs.Outcomes.{answer_with, before_input, outcome, reads_modaliases, unused_of}
 
--- Messages, the answers to an input after them, and what is said about all of it, if something is, step by step.
-abbrev pub AnswersSaying : Bool → (for_people : Bool) → (messages : Text) → (EventValue → Text) → (says : Text → Text) → ℕ → Streams → Streams → Type 0
-AnswersSaying true for_people messages answer says status before now = SaysAll for_people messages answer says status before now
-AnswersSaying false for_people messages answer says status before now = AnswersAll for_people messages answer status before now
+-- The messages of an opening, the answers to an input after them, and, if the line asks for that, the rules that are unused after
+-- these, step by step.
+pub record AnswersBy (line : Line) (found : FilesFound) (opening : OpeningValue) (status : ℕ) (before now : Streams) : Type 0 where
+  pub says : line.unused ≡ true
+      → SaysAll (is_for_people line.format) opening.messages (answer_with line found opening) (unused_of line found opening) status before now
+  pub answers : line.unused ≡ false
+      → AnswersAll (is_for_people line.format) opening.messages (answer_with line found opening) status before now
 
 -- a run of a line, by its outcome before it looks at its input
 abbrev pub RunsBy : Line → FilesFound → Result OpeningValue RunOutcome → ℕ → Streams → Streams → Type 0
-RunsBy line found (Ok opening) status before now =
-    AnswersSaying line.unused (is_for_people line.format) opening.messages (answer_with line found opening) (unused_of line found opening) status before now
+RunsBy line found (Ok opening) status before now = AnswersBy line found opening status before now
 RunsBy line found (Err said) status before now = Reports said status before now
 
 -- A run over the outcome of opening its index: what is written and answered is one function of the line, the files,

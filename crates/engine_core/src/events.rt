@@ -2,13 +2,14 @@
 ghost use Rattle.std.specs.Prelude.{◌≡◌, true, false, Ok, IfOk, IfErr, Some, Result};
 ghost use Rattle.engine_ends.specs.Delivery.{RunOutcome};
 ghost use Rattle.engine_ends.specs.Readers.{is_for_people};
-ghost use Rattle.engine_core.specs.Outcomes.{added_of, answer_with, asked_of, asks_more, is_json, unused_of, why_of};
-ghost use Rattle.engine_core.specs.Runs.{AnswersSaying, RunsBy};
+ghost use Rattle.engine_core.specs.Outcomes.{added_of, asked_of, asks_more, is_json, why_of};
+ghost use Rattle.engine_core.specs.Runs.{AnswersBy, RunsBy};
 ghost use Rattle.engine_reports.specs.Indexes.{entries_in};
 ghost use Rattle.engine_reports.specs.Openings.{OpeningValue, opening};
 ghost use Rattle.engine_reports.specs.Reports.{IsRefused, shown_rules};
+ghost use Rattle.engine_sessions.specs.Serves.{AnswersAll};
 ghost use Rattle.engine_sessions.specs.Sessions.{answers_as};
-ghost use Rattle.engine_sessions.specs.Tallies.{events_of};
+ghost use Rattle.engine_sessions.specs.Tallies.{SaysAll, events_of};
 ghost use Rattle.engine_unused.specs.Unused.{unused_lines};
 
 use crate::asked::AskedTables;
@@ -124,9 +125,7 @@ fn answer_by_rules<L: Lookup + Drop, R: Source, W: Sink, E: Sink>(
     output: &mut W,
     error: &mut E,
 ) -> u8
-    ensures { AnswersSaying line.now.unused (is_for_people line.now.format) read.messages.items
-        (answer_with line.now found.now (shown_rules read (L.entries lookup)))
-        (unused_of line.now found.now (shown_rules read (L.entries lookup))) result
+    ensures { AnswersBy line.now found.now (shown_rules read (L.entries lookup)) result
         (record { input = R.shown input.old; out = W.shown output.old; err = E.shown error.old })
         (record { input = R.shown input.new; out = W.shown output.new; err = E.shown error.new }) }
 {
@@ -149,9 +148,7 @@ fn ask_by_rules<L: Lookup + Drop, R: Source, W: Sink, E: Sink>(
     error: &mut E,
 ) -> u8
     requires { line.now.questions ≡ true }
-    ensures { AnswersSaying line.now.unused (is_for_people line.now.format) read.messages.items
-        (answer_with line.now found.now (shown_rules read (L.entries lookup)))
-        (unused_of line.now found.now (shown_rules read (L.entries lookup))) result
+    ensures { AnswersBy line.now found.now (shown_rules read (L.entries lookup)) result
         (record { input = R.shown input.old; out = W.shown output.old; err = E.shown error.old })
         (record { input = R.shown input.new; out = W.shown output.new; err = E.shown error.new }) }
 {
@@ -193,8 +190,13 @@ fn answer_and_say<A: Answering, K: Knowledge, R: Source, W: Sink, E: Sink>(
     output: &mut W,
     error: &mut E,
 ) -> u8
-    ensures { AnswersSaying line.now.unused (is_for_people line.now.format) messages.now (answers_as line.now.profile (A.answers answering.now))
+    ensures says { line.now.unused ≡ true
+        → SaysAll (is_for_people line.now.format) messages.now (answers_as line.now.profile (A.answers answering.now))
         (λ text. unused_lines (added_of line.now) rules.now (K.known knowledge.now) (events_of line.now.profile text)) result
+        (record { input = R.shown input.old; out = W.shown output.old; err = E.shown error.old })
+        (record { input = R.shown input.new; out = W.shown output.new; err = E.shown error.new }) }
+    ensures answers { line.now.unused ≡ false
+        → AnswersAll (is_for_people line.now.format) messages.now (answers_as line.now.profile (A.answers answering.now)) result
         (record { input = R.shown input.old; out = W.shown output.old; err = E.shown error.old })
         (record { input = R.shown input.new; out = W.shown output.new; err = E.shown error.new }) }
 {
@@ -226,9 +228,7 @@ fn report_by_rules<L: Lookup + Drop, R: Source, W: Sink, E: Sink>(
     error: &mut E,
 ) -> u8
     requires { line.now.questions ≡ false }
-    ensures { AnswersSaying line.now.unused (is_for_people line.now.format) read.messages.items
-        (answer_with line.now found.now (shown_rules read (L.entries lookup)))
-        (unused_of line.now found.now (shown_rules read (L.entries lookup))) result
+    ensures { AnswersBy line.now found.now (shown_rules read (L.entries lookup)) result
         (record { input = R.shown input.old; out = W.shown output.old; err = E.shown error.old })
         (record { input = R.shown input.new; out = W.shown output.new; err = E.shown error.new }) }
 {

@@ -144,13 +144,9 @@ impl<'a, A: Answering> Session<'a, A> {
         match self.splitter.end() {
             Ok(true) => {
                 let last = self.splitter.block();
-                match answer_to(alloc, self.profile, self.answering, last, number) {
-                    Ok(answer) => {
-                        self.answered = number;
-                        Ok(Some(answer))
-                    }
-                    Err(fault) => Err(fault),
-                }
+                let answer = answer_to(alloc, self.profile, self.answering, last, number)?;
+                self.answered = number;
+                Ok(Some(answer))
             }
             Ok(false) => Ok(None),
             Err(fault) => Err(split_refused(fault, number)),

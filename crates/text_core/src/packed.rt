@@ -98,12 +98,10 @@ impl PackedPattern {
         ensures value { MatchResult result (λ p. spell text.now ≡ Ok p) (λ e. e ≢ Memory → spell text.now ≡ Err e) }
         ensures too_long { max_len < length text.now → IsErrOf result TooLong }
     {
-        match Pattern::read(alloc, text) {
-            Ok(pattern) => Ok(PackedPattern {
-                held: Held::Whole(RcSlice::from_vec(pattern.into_items())?),
-            }),
-            Err(fault) => Err(fault),
-        }
+        let pattern = Pattern::read(alloc, text)?;
+        Ok(PackedPattern {
+            held: Held::Whole(RcSlice::from_vec(pattern.into_items())?),
+        })
     }
 
     /// A pattern of the same items, which both share, so that it takes no memory. It fails only if there are as many

@@ -12,7 +12,7 @@ ghost use Rattle.engine_formats.specs.declared.remark.Remark.TheVariants as abou
 use crate::near::nearest;
 use crate::remark::Remark;
 use file_messages::MessageKind;
-use rule_types::{Builtin, Key, first_word};
+use rule_types::{BUILTINS, Builtin, Key, first_word};
 use std::alloc::{AllocError, Global};
 use text_bytes::{split_once, word_of};
 
@@ -47,22 +47,6 @@ const KEYS: [Key; 29] = [
     Key::Options,
     Key::Label,
     Key::Goto,
-];
-
-/// All builtins, in the order in which udev looks them up.
-const BUILTINS: [Builtin; 12] = [
-    Builtin::Blkid,
-    Builtin::Btrfs,
-    Builtin::Hwdb,
-    Builtin::InputId,
-    Builtin::Keyboard,
-    Builtin::Kmod,
-    Builtin::NetDriver,
-    Builtin::NetId,
-    Builtin::NetSetupLink,
-    Builtin::PathId,
-    Builtin::UsbId,
-    Builtin::Uaccess,
 ];
 
 /// The names of options of OPTIONS, each without its value.

@@ -3,10 +3,13 @@ use Rattle.std.proofs.Common.{◌≡◌, ◌⊎◌, inl, inr, ℕ, Bool, true, f
 use Rattle.std.proofs.lemmas.Bool.{eqb-true}
 use Rattle.std.proofs.lemmas.Slice.Eq.{bytes_eq-Decides}
 use Rattle.std.specs.Prelude.{nat_eq}
+use Rattle.std.specs.Bool.{beq}
+use Rattle.std.specs.Cmp.{booleans_Decides}
 use Rattle.std.specs.Cmp.Lexicographic.{pointwise}
 use Rattle.std.specs.Option.{option_eq}
 use Rattle.std.specs.List.{AllByRecursion}
 use Rattle.text_bytes.specs.declared.profile.Profile.TheVariants.{Manual}
+use Rattle.text_tables.specs.Texts.{same_text}
 use Rattle.rule_tokens.specs.Grammar.{Head, Parts, Placed}
 use Rattle.rule_tokens.specs.declared.kinds.Operator.{Operator}
 use Rattle.rule_tokens.specs.declared.kinds.Operator.TheVariants as op
@@ -15,11 +18,11 @@ use Rattle.rule_tokens.specs.declared.kinds.Quote.TheVariants as quote
 use Rattle.rule_jumps.specs.declared.jumps.Landing.{Landing}
 use Rattle.rule_core.specs.Lines.{joined_lines}
 use Rattle.rule_core.specs.Drafts.{Draft}
-use Rattle.rule_types.specs.Tokens.{WrittenPart, tokens_in}
+use Rattle.rule_types.specs.Tokens.{WrittenPart, same_operator, tokens_in}
 use Rattle.rule_types.specs.declared.spot.Spot.{Spot}
 use Rattle.file_messages.specs.declared.message.MessageKind.{MessageKind}
 use Rattle.rule_format.specs.Gaps.{is_well_spaced}
-use Rattle.rule_format.specs.Alike.{is_idle, is_mended, is_mended_line, same_attribute, same_bool, same_if_idle, same_landing, same_operator, same_part, same_quote, same_text, same_token, says_same, stands_for}
+use Rattle.rule_format.specs.Alike.{is_idle, is_mended, is_mended_line, same_attribute, same_if_idle, same_landing, same_part, same_quote, same_token, says_same, stands_for}
 use Rattle.rule_format.specs.Faults.{is_badly_spaced, is_faultless, is_sound, is_to_mend, parts_read}
 use Rattle.rule_format.specs.Laws.{Correspond, IsAsItWas, IsMended, StaysIfIdle, said}
 use Rattle.rule_format.specs.Mended.{mended}
@@ -105,14 +108,13 @@ attribute_is None (Some b) h = cc
 attribute_is (Some a) None h = cc
 attribute_is (Some a) (Some b) h = ap (λ (t : List ℕ). Some t) (text_is a b h)
 
-bool_is : (a b : Bool) → same_bool a b ≡ true → a ≡ b
-bool_is true b h = sym h
-bool_is false b h = sym (not_true b h)
+bool_is : (a b : Bool) → beq a b ≡ true → a ≡ b
+bool_is a b h = (booleans_Decides a b).0 h
 
 landing_is : (l k : Landing) → same_landing l k ≡ true → k ≡ l
 landing_is l k h =
-    let lost : l.lost ≡ k.lost = bool_is l.lost k.lost (left (same_bool l.lost k.lost) (same_bool l.unused k.unused) h) in
-    let unused : l.unused ≡ k.unused = bool_is l.unused k.unused (right (same_bool l.lost k.lost) (same_bool l.unused k.unused) h) in
+    let lost : l.lost ≡ k.lost = bool_is l.lost k.lost (left (beq l.lost k.lost) (beq l.unused k.unused) h) in
+    let unused : l.unused ≡ k.unused = bool_is l.unused k.unused (right (beq l.lost k.lost) (beq l.unused k.unused) h) in
     landing l.lost k.lost l.unused k.unused lost unused where
       made : Bool → Bool → Landing
       made a b = record { lost = a; unused = b }

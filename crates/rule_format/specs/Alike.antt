@@ -1,34 +1,20 @@
 -- Rules files that are read alike.
 use Rattle.std.specs.Prelude.{ℕ, Bool, true, false, not, ◌==◌, ◌&&◌, ◌||◌, nat_eq, if◌then◌else◌, List, Option}
+use Rattle.std.specs.Bool.{beq}
 use Rattle.std.specs.Cmp.Lexicographic.{pointwise}
 use Rattle.std.specs.Option.{option_eq}
 use Rattle.text_bytes.specs.Texts.{is_empty}
 use Rattle.text_bytes.specs.declared.profile.Profile.TheVariants.{Manual}
+use Rattle.text_tables.specs.Texts.{same_text}
 use Rattle.rule_tokens.specs.Grammar.{Placed}
-use Rattle.rule_tokens.specs.declared.kinds.Operator.{Operator}
-use Rattle.rule_tokens.specs.declared.kinds.Operator.TheVariants as op
 use Rattle.rule_tokens.specs.declared.kinds.Quote.{Quote}
 use Rattle.rule_tokens.specs.declared.kinds.Quote.TheVariants as quote
 use Rattle.rule_jumps.specs.declared.jumps.Landing.{Landing}
 use Rattle.rule_core.specs.Lines.{joined_lines}
-use Rattle.rule_types.specs.Tokens.{WrittenPart}
+use Rattle.rule_types.specs.Tokens.{WrittenPart, same_operator}
 use Rattle.rule_format.specs.Faults.{is_sound, is_to_mend, parts_read}
 use Rattle.rule_format.specs.Proposed.{Landed, landed_in}
 use Rattle.rule_format.specs.WholeLines.{is_comment, whole_lines, written}
-
--- whether two texts have the same bytes
-abbrev pub same_text : List ℕ → List ℕ → Bool
-same_text a b = pointwise nat_eq a b
-
--- whether two operators are the same
-abbrev pub same_operator : Operator → Operator → Bool
-same_operator op.Equal op.Equal = true
-same_operator op.NotEqual op.NotEqual = true
-same_operator op.Add op.Add = true
-same_operator op.Remove op.Remove = true
-same_operator op.AssignFinal op.AssignFinal = true
-same_operator op.Assign op.Assign = true
-same_operator _ _ = false
 
 -- whether two values are quoted in the same way
 abbrev pub same_quote : Quote → Quote → Bool
@@ -54,14 +40,9 @@ same_token s t =
 abbrev pub same_part : WrittenPart → WrittenPart → Bool
 same_part v w = same_token v.token w.token
 
--- whether two answers are the same
-abbrev pub same_bool : Bool → Bool → Bool
-same_bool true b = b
-same_bool false b = not b
-
 -- whether the same becomes of two rules' jumps and labels
 abbrev pub same_landing : Landing → Landing → Bool
-same_landing l k = same_bool l.lost k.lost && same_bool l.unused k.unused
+same_landing l k = beq l.lost k.lost && beq l.unused k.unused
 
 -- whether a joined line has the number of another, its jump and its label fare the same, and nothing is to mend in it
 abbrev pub stands_for : Landed → Landed → Bool

@@ -1,9 +1,10 @@
 //! Rules files that are read alike.
 ghost use Rattle.std.specs.Prelude.{◌≡◌, option_map, zip};
 ghost use Rattle.std.specs.Cmp.Lexicographic.{pointwise};
-ghost use Rattle.rule_format.specs.Alike.{is_idle, is_mended_line, same_attribute, same_bool, same_if_idle, same_landing, same_operator};
-ghost use Rattle.rule_format.specs.Alike.{same_part, same_quote, same_text, same_token, says_same, stands_for};
+ghost use Rattle.rule_format.specs.Alike.{is_idle, is_mended_line, same_attribute, same_if_idle, same_landing};
+ghost use Rattle.rule_format.specs.Alike.{same_part, same_quote, same_token, says_same, stands_for};
 ghost use Rattle.rule_format.specs.Faults.{parts_read};
+ghost use Rattle.rule_types.specs.Tokens.{same_operator};
 ghost use Rattle.std.specs.List.{list_all};
 ghost use Rattle.rule_format.specs.WholeLines.{whole_lines};
 
@@ -53,7 +54,7 @@ fn says_same(old: &LandedReading<'_>, new: &LandedReading<'_>) -> bool
     if is_to_mend(old) {
         is_sound(new) && same_tokens(parts_of(old), parts_of(new))
     } else {
-        same_text(old.reading.text, new.reading.text)
+        old.reading.text == new.reading.text
     }
 }
 
@@ -92,11 +93,11 @@ fn same_part(old: &WrittenPart<'_>, new: &WrittenPart<'_>) -> bool
 fn same_token(old: &Token<'_>, new: &Token<'_>) -> bool
     ensures { result ≡ same_token old.now new.now }
 {
-    same_text(old.key(), new.key())
+    old.key() == new.key()
         && same_attribute(old.attribute(), new.attribute())
         && same_operator(old.operator(), new.operator())
         && same_quote(old.quote(), new.quote())
-        && same_text(old.value(), new.value())
+        && old.value() == new.value()
 }
 
 /// Whether two attributes are the same, or both are lacking.
@@ -105,7 +106,7 @@ fn same_attribute(old: Option<&[u8]>, new: Option<&[u8]>) -> bool
 {
     match (old, new) {
         (None, None) => true,
-        (Some(attribute), Some(other)) => same_text(attribute, other),
+        (Some(attribute), Some(other)) => attribute == other,
         _ => false,
     }
 }
@@ -114,7 +115,7 @@ fn same_attribute(old: Option<&[u8]>, new: Option<&[u8]>) -> bool
 fn same_landing(old: Landing, new: Landing) -> bool
     ensures { result ≡ same_landing old new }
 {
-    same_bool(old.lost, new.lost) && same_bool(old.unused, new.unused)
+    old.lost == new.lost && old.unused == new.unused
 }
 
 /// Whether two operators are the same.
@@ -127,20 +128,6 @@ fn same_operator(old: Operator, new: Operator) -> bool
 /// Whether two values are quoted in the same way.
 fn same_quote(old: Quote, new: Quote) -> bool
     ensures { result ≡ same_quote old new }
-{
-    old == new
-}
-
-/// Whether two answers are the same.
-fn same_bool(old: bool, new: bool) -> bool
-    ensures { result ≡ same_bool old new }
-{
-    old == new
-}
-
-/// Whether two texts have the same bytes.
-fn same_text(old: &[u8], new: &[u8]) -> bool
-    ensures { result ≡ same_text old.now new.now }
 {
     old == new
 }
@@ -168,7 +155,7 @@ pub(crate) fn keeps_idle_lines(old: &[u8], new: &[u8]) -> bool
 fn same_if_idle(old: &WholeLine<'_>, new: &WholeLine<'_>) -> bool
     ensures { result ≡ same_if_idle old.now new.now }
 {
-    !is_idle(old) || same_text(old.bytes(), new.bytes())
+    !is_idle(old) || old.bytes() == new.bytes()
 }
 
 /// Whether a line of a file is a comment, or has nothing but blanks.

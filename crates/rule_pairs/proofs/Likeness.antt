@@ -1,5 +1,7 @@
 -- Likeness does not depend on order, and no two tokens are both the same and against each other.
 use Rattle.std.proofs.Common.{◌≡◌, Bool, true, false, cond, not, ◌&&◌, ◌||◌, List, Option, Some, None, refl, ap, sym, ◌∙◌, true≢false}
+use Rattle.std.specs.Bool.{beq}
+use Rattle.std.specs.Cmp.{booleans_Decides}
 use Rattle.std.specs.Cmp.Lexicographic.{bytes_decides}
 use Rattle.std.specs.List.{list_all}
 use Rattle.std.specs.Option.{option_eq}
@@ -9,7 +11,8 @@ use Rattle.std.proofs.lemmas.Cmp.{int_eq_equiv}
 use Rattle.text_tables.specs.Texts.{Text, is_among, same_text}
 use Rattle.rule_tokens.specs.declared.kinds.Operator.{Operator}
 use Rattle.rule_tokens.specs.declared.kinds.Operator.TheVariants as op
-use Rattle.rule_pairs.specs.Relations.{are_alike, are_disjoint, are_opposite, is_against, is_same, is_wordless, lacks_words, same_bool, same_form, same_matter, same_operator, same_way, same_words}
+use Rattle.rule_types.specs.Tokens.{same_operator}
+use Rattle.rule_pairs.specs.Relations.{are_alike, are_disjoint, are_opposite, is_against, is_same, is_wordless, lacks_words, same_form, same_matter, same_way, same_words}
 use Rattle.rule_pairs.specs.Said.{Said}
 use Rattle.rule_pairs.specs.declared.form.Form.{Form}
 use Rattle.rule_pairs.specs.declared.form.Form.TheVariants as form
@@ -59,16 +62,14 @@ form_reversed a b =
     (λ h. ap (λ (f : Form). same_form f a) (sym (form_is a b h)) ∙ form_itself a)
     (λ h. ap (λ (f : Form). same_form f b) (sym (form_is b a h)) ∙ form_itself b)
 
-bool_reversed : (a b : Bool) → same_bool a b ≡ same_bool b a
+bool_reversed : (a b : Bool) → beq a b ≡ beq b a
 bool_reversed true true = refl
 bool_reversed true false = refl
 bool_reversed false true = refl
 bool_reversed false false = refl
 
-bool_is : (a b : Bool) → same_bool a b ≡ true → a ≡ b
-bool_is true b h = sym h
-bool_is false true h = absurd (true≢false (sym h))
-bool_is false false h = refl
+bool_is : (a b : Bool) → beq a b ≡ true → a ≡ b
+bool_is a b h = (booleans_Decides a b).0 h
 
 and_reversed : (a b : Bool) → (a && b) ≡ (b && a)
 and_reversed true true = refl
@@ -86,9 +87,9 @@ way_reversed a b = rw (form_reversed a.form b.form, bool_reversed a.blind b.blin
 lacks_alike : (a b : Said) → same_way a b ≡ true → lacks_words a ≡ lacks_words b
 lacks_alike a b h =
     let one : a.form ≡ b.form = form_is a.form b.form (first_holds (same_form a.form b.form) _ h) in
-    let rest : (same_bool a.blind b.blind && same_bool a.trims b.trims) ≡ true = second_holds (same_form a.form b.form) _ h in
-    let blind : a.blind ≡ b.blind = bool_is a.blind b.blind (first_holds (same_bool a.blind b.blind) _ rest) in
-    let trims : a.trims ≡ b.trims = bool_is a.trims b.trims (second_holds (same_bool a.blind b.blind) _ rest) in
+    let rest : (beq a.blind b.blind && beq a.trims b.trims) ≡ true = second_holds (same_form a.form b.form) _ h in
+    let blind : a.blind ≡ b.blind = bool_is a.blind b.blind (first_holds (beq a.blind b.blind) _ rest) in
+    let trims : a.trims ≡ b.trims = bool_is a.trims b.trims (second_holds (beq a.blind b.blind) _ rest) in
     ap (λ (f : Form). is_wordless f && (not a.blind && not a.trims)) one
     ∙ ap (λ (x : Bool). is_wordless b.form && (not x && not a.trims)) blind
     ∙ ap (λ (x : Bool). is_wordless b.form && (not b.blind && not x)) trims

@@ -1,5 +1,6 @@
 -- When two tokens of a rule say the same, and when they exclude each other.
 use Rattle.std.specs.Prelude.{Bool, true, false, not, ◌&&◌, ◌||◌, nat_eq, if◌then◌else◌, List, take}
+use Rattle.std.specs.Bool.{beq}
 use Rattle.std.specs.List.{list_all, list_any, prefix_len, starts_with}
 use Rattle.std.specs.Option.{option_eq}
 use Rattle.std.specs.Ordering.{int_eq}
@@ -8,19 +9,10 @@ use Rattle.text_core.specs.Fnmatch.{is_special}
 use Rattle.text_tables.specs.Texts.{Text, is_among, same_text}
 use Rattle.rule_tokens.specs.declared.kinds.Operator.{Operator}
 use Rattle.rule_tokens.specs.declared.kinds.Operator.TheVariants as op
+use Rattle.rule_types.specs.Tokens.{same_operator}
 use Rattle.rule_pairs.specs.Said.{Said}
 use Rattle.rule_pairs.specs.declared.form.Form.{Form}
 use Rattle.rule_pairs.specs.declared.form.Form.TheVariants as form
-
--- whether two operators are the same
-abbrev pub same_operator : Operator → Operator → Bool
-same_operator op.Equal op.Equal = true
-same_operator op.NotEqual op.NotEqual = true
-same_operator op.Add op.Add = true
-same_operator op.Remove op.Remove = true
-same_operator op.AssignFinal op.AssignFinal = true
-same_operator op.Assign op.Assign = true
-same_operator _ _ = false
 
 -- whether two operators are `==` and `!=`
 abbrev pub are_opposite : Operator → Operator → Bool
@@ -39,18 +31,13 @@ same_form form.PatternOrEmpty form.PatternOrEmpty = true
 same_form form.Whole form.Whole = true
 same_form _ _ = false
 
--- whether two answers are the same
-abbrev pub same_bool : Bool → Bool → Bool
-same_bool true b = b
-same_bool false b = not b
-
 -- whether two tokens are of the same kind and about the same matter
 abbrev pub same_matter : Said → Said → Bool
 same_matter a b = same_text a.key b.key && (same_text a.kind b.kind && (same_text a.name b.name && option_eq int_eq a.number b.number))
 
 -- whether two tokens compare in the same way
 abbrev pub same_way : Said → Said → Bool
-same_way a b = same_form a.form b.form && (same_bool a.blind b.blind && same_bool a.trims b.trims)
+same_way a b = same_form a.form b.form && (beq a.blind b.blind && beq a.trims b.trims)
 
 -- whether two lists have the same words, in any order
 abbrev pub same_words : List Text → List Text → Bool

@@ -1,10 +1,11 @@
 //! When two tokens of a rule say the same, and when they exclude each other.
 ghost use Rattle.std.specs.Prelude.{◌≡◌, ◌≤◌, length, map, not};
 ghost use Rattle.std.specs.List.{list_all, list_any, prefix_len};
-ghost use Rattle.text_tables.specs.Texts.{is_among, same_text};
+ghost use Rattle.text_tables.specs.Texts.{is_among};
 ghost use Rattle.text_core.specs.Fnmatch.{is_special};
+ghost use Rattle.rule_types.specs.Tokens.{same_operator};
 ghost use Rattle.rule_pairs.specs.Relations.{all_part_ways, are_alike, are_disjoint, are_opposite, beginning, is_against, is_same, is_strict, is_wordless};
-ghost use Rattle.rule_pairs.specs.Relations.{lacks_words, leave_nothing, part_ways, parts_from_all, same_bool, same_form, same_matter, same_operator};
+ghost use Rattle.rule_pairs.specs.Relations.{lacks_words, leave_nothing, part_ways, parts_from_all, same_form, same_matter};
 ghost use Rattle.rule_pairs.specs.Relations.{same_way, same_words, share_a_word};
 
 use crate::form::Form;
@@ -55,9 +56,9 @@ fn are_disjoint(a: &Said, b: &Said) -> bool
 fn same_matter(a: &Said, b: &Said) -> bool
     ensures { result ≡ same_matter a.now b.now }
 {
-    same_text(a.key, b.key)
-        && same_text(a.kind, b.kind)
-        && same_text(a.name.as_slice(), b.name.as_slice())
+    a.key == b.key
+        && a.kind == b.kind
+        && a.name.as_slice() == b.name.as_slice()
         && a.number == b.number
 }
 
@@ -65,7 +66,7 @@ fn same_matter(a: &Said, b: &Said) -> bool
 fn same_way(a: &Said, b: &Said) -> bool
     ensures { result ≡ same_way a.now b.now }
 {
-    same_form(a.form, b.form) && same_bool(a.blind, b.blind) && same_bool(a.trims, b.trims)
+    same_form(a.form, b.form) && a.blind == b.blind && a.trims == b.trims
 }
 
 /// Whether the words of a token do not matter.
@@ -93,13 +94,6 @@ fn leave_nothing(form: Form, words: &OwnedTexts, others: &OwnedTexts) -> bool
     }
 }
 
-/// Whether two texts have the same bytes.
-fn same_text(a: &[u8], b: &[u8]) -> bool
-    ensures { result ≡ same_text a.now b.now }
-{
-    a == b
-}
-
 /// Whether two operators are the same.
 fn same_operator(a: Operator, b: Operator) -> bool
     ensures { result ≡ same_operator a b }
@@ -121,13 +115,6 @@ fn are_opposite(a: Operator, b: Operator) -> bool
 /// Whether two forms are the same.
 fn same_form(a: Form, b: Form) -> bool
     ensures { result ≡ same_form a b }
-{
-    a == b
-}
-
-/// Whether two answers are the same.
-fn same_bool(a: bool, b: bool) -> bool
-    ensures { result ≡ same_bool a b }
 {
     a == b
 }

@@ -24,7 +24,7 @@ pub enum Builtin {
 }
 
 /// All builtins, in the order in which udev looks them up.
-const BUILTINS: [Builtin; 12] = [
+pub const BUILTINS: [Builtin; 12] = [
     Builtin::Blkid,
     Builtin::Btrfs,
     Builtin::Hwdb,

@@ -19,7 +19,7 @@ mod written;
 mod written_part;
 mod written_parts;
 
-pub use builtins::{Builtin, builtin_of, first_word};
+pub use builtins::{BUILTINS, Builtin, builtin_of, first_word};
 pub use keys::{Key, key_of};
 pub use modes::mode_of;
 pub use operators::{is_add_or_final, is_read_as_assign, read_as};

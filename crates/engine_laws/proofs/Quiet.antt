@@ -53,8 +53,8 @@ use Rattle.eval_state.specs.declared.scene.Scene.{Scene}
 use Rattle.eval_acts.specs.Acts.{imported, on_text}
 use Rattle.eval_acts.specs.Inner.{left}
 use Rattle.eval_acts.specs.BuiltinRuns.{looked_up, most_set, needs_noted, needs_word, outcome_set, outcome_taken, path_id_run, properties_size, usb_id_run, with_maker}
-use Rattle.eval_acts.specs.LookUpNeeds.{lookup_needs}
-use Rattle.eval_acts.specs.LookUps.{found}
+use Rattle.eval_lookups.specs.LookUpNeeds.{lookup_needs}
+use Rattle.eval_lookups.specs.LookUps.{found}
 use Rattle.eval_acts.specs.Imports.{builtin_run, from_answer_or_noted, from_parent, run_builtin, taken}
 use Rattle.eval_acts.specs.Printed.{printed_properties}
 use Rattle.eval_commands.specs.Builtins.{builtin_question}

@@ -1,9 +1,0 @@
-pub mod Filtering
-pub mod Finding
-pub mod Lacking
-pub mod Lines
-pub mod Plain
-pub mod Runs
-pub mod Seeing
-pub mod Setting
-pub mod Nothing

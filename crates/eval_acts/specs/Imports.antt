@@ -16,8 +16,8 @@ use Rattle.rule_types.specs.Rules.{Rule}
 use Rattle.eval_commands.specs.Builtins.{builtin, builtin_question}
 use Rattle.eval_commands.specs.Cmdline.{cmdline_value}
 use Rattle.eval_acts.specs.BuiltinRuns.{input_id_run, needs_noted, net_id_run, net_setup_link_run, path_id_run, usb_id_run}
-use Rattle.eval_acts.specs.LookUpNeeds.{lookup_needs}
-use Rattle.eval_acts.specs.LookUps.{found}
+use Rattle.eval_lookups.specs.LookUpNeeds.{lookup_needs}
+use Rattle.eval_lookups.specs.LookUps.{found}
 use Rattle.eval_acts.specs.Printed.{printed_properties}
 use Rattle.eval_commands.specs.declared.builtin.Builtin.{Builtin}
 use Rattle.eval_commands.specs.declared.hwdb.Hwdb.{Hwdb}

@@ -4,10 +4,9 @@ ghost use Rattle.eval_acts.specs.Imports.{hwdb_run};
 
 use crate::builtin_runs::note_needs;
 use crate::imports::take;
-use crate::lookup_needs::lookup_needs;
-use crate::lookups::look_up_request;
 use builtin_knowledge::Knowledge;
 use eval_commands::Request;
+use eval_lookups::{look_up, lookup_needs};
 use eval_state::Scene;
 use rule_types::Rule;
 use std::alloc::{AllocError, Global};
@@ -23,7 +22,7 @@ pub(crate) fn run_hwdb<K: Knowledge>(
     ensures scene { IfOk result (λ done. (scene.new, done) ≡ hwdb_run (K.known knowledge.now) rule.now request.now scene.old) }
     ensures refused { OnErr result (scene.new.state.event ≡ scene.old.state.event) }
 {
-    let found = look_up_request(alloc, request, &scene.state, knowledge)?;
+    let found = look_up(alloc, request, &scene.state, knowledge)?;
     let needs = lookup_needs(alloc, request, &scene.state, &found)?;
     let done = take(alloc, &found, scene)?;
     note_needs(alloc, rule, b"hwdb", &needs, scene)?;

@@ -5,24 +5,18 @@
 mod act_texts;
 mod acting;
 mod builtin_runs;
-mod candidates;
 mod hwdb_runs;
 mod imports;
-mod lookup_needs;
-mod lookups;
 mod printed;
 mod questions;
 mod reaching;
 mod root_imports;
-mod seen;
 mod stored;
 mod unread;
-mod usb_modalias;
 
 pub use act_texts::{import_text, names_text, program_text, test_text};
 pub use acting::act_step;
 pub use imports::line_for;
-pub use lookups::look_up;
 pub use reaching::match_reached;
 pub use stored::{is_removal, is_stored_known};
 pub use unread::first_unread;

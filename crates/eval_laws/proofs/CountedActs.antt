@@ -53,8 +53,8 @@ use Rattle.eval_acts.specs.Inner.{left}
 use Rattle.eval_acts.specs.RootImports.{file_properties, from_file, from_found}
 use Rattle.eval_acts.specs.Stored.{from_stored, is_stored_known, stored_value}
 use Rattle.eval_acts.specs.Imports.{builtin_run, from_answer_or_noted, from_line, from_parent, from_program, line_for, name_given, not_run, run_builtin, taken}
-use Rattle.eval_acts.specs.LookUpNeeds.{lookup_needs}
-use Rattle.eval_acts.specs.LookUps.{found}
+use Rattle.eval_lookups.specs.LookUpNeeds.{lookup_needs}
+use Rattle.eval_lookups.specs.LookUps.{found}
 use Rattle.eval_acts.specs.Printed.{printed_properties}
 use Rattle.eval_acts.specs.Questions.{answered_by_block, answered_or_noted, result_of, tested, tested_at, tested_by, tested_by_udev, with_result}
 use Rattle.eval_acts.specs.Unread.{first_unread, unread_notes}

@@ -10,7 +10,7 @@ use Rattle.hwdb_lookup.specs.declared.entry.Entry.{Entry}
 use Rattle.builtin_knowledge.specs.Knowledge.{Known}
 use Rattle.eval_laws.specs.DeviceWeights.{pair_weight, pairs_weight}
 use Rattle.eval_state.specs.declared.state.State.{State}
-use Rattle.eval_acts.specs.LookUps.{counted_properties, counts, first_found, found, texts}
+use Rattle.eval_lookups.specs.LookUps.{counted_properties, counts, first_found, found, texts}
 use Rattle.eval_commands.specs.declared.hwdb.Hwdb.{Hwdb}
 use Rattle.eval_laws.specs.Allowances.{entries_weight, entry_weight}
 use Rattle.eval_laws.proofs.Sums.{filter_light, fold_light, put_light}

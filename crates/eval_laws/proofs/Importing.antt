@@ -35,8 +35,8 @@ use Rattle.eval_acts.specs.Acts as acts
 use Rattle.eval_acts.specs.Acts.{act_step, command_reached, imported, on_text, proceeds, too_long_noted}
 use Rattle.eval_acts.specs.BuiltinRuns.{needs_noted}
 use Rattle.eval_acts.specs.Imports.{builtin_run, from_parent, run_builtin, with_found}
-use Rattle.eval_acts.specs.LookUpNeeds.{lookup_needs}
-use Rattle.eval_acts.specs.LookUps.{found}
+use Rattle.eval_lookups.specs.LookUpNeeds.{lookup_needs}
+use Rattle.eval_lookups.specs.LookUps.{found}
 use Rattle.eval_acts.specs.Questions.{tested, tested_by}
 use Rattle.eval_laws.specs.Acting.{builtin_import, parent_import, test}
 

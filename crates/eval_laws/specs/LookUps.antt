@@ -5,7 +5,7 @@ use Rattle.text_bytes.specs.Names.{equals}
 use Rattle.text_tables.specs.Texts.{Text}
 use Rattle.text_tables.specs.Pairs.{Pair}
 use Rattle.builtin_knowledge.specs.Knowledge.{Known}
-use Rattle.eval_acts.specs.LookUps.{Candidate, counted_properties, is_wanted}
+use Rattle.eval_lookups.specs.LookUps.{Candidate, counted_properties, is_wanted}
 use Rattle.eval_commands.specs.declared.hwdb.Hwdb.{Hwdb}
 
 -- One of the texts is answered with these properties, and those before it give none.

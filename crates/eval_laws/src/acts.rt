@@ -32,7 +32,7 @@ ghost use Rattle.eval_commands.specs.declared.hwdb.Hwdb.{Hwdb};
 ghost use Rattle.eval_matching.specs.Attributes.{is_not_read};
 ghost use Rattle.eval_acts.specs.Acts.{act_step, import_reached};
 ghost use Rattle.eval_acts.specs.BuiltinRuns.{outcome_taken};
-ghost use Rattle.eval_acts.specs.LookUps.{found};
+ghost use Rattle.eval_lookups.specs.LookUps.{found};
 ghost use Rattle.eval_acts.specs.Unread.{unread_in, unread_noted};
 ghost use Rattle.eval_laws.specs.Acting.{builtin_import, parent_import, test};
 

@@ -19,8 +19,8 @@ ghost use Rattle.builtin_devices.specs.declared.numbers.Base.TheVariants.{Hexade
 ghost use Rattle.eval_state.specs.Texts.{or_empty};
 ghost use Rattle.eval_state.specs.declared.state.State.{State};
 ghost use Rattle.eval_commands.specs.Hwdb.{hwdb_of};
-ghost use Rattle.eval_acts.specs.LookUps.{Candidate, candidate, candidates, counted_properties, found, is_last, texts};
-ghost use Rattle.eval_acts.specs.UsbModalias.{four_digits, made_up, number_of};
+ghost use Rattle.eval_lookups.specs.LookUps.{Candidate, candidate, candidates, counted_properties, found, is_last, texts};
+ghost use Rattle.eval_lookups.specs.UsbModalias.{four_digits, made_up, number_of};
 ghost use Rattle.eval_commands.specs.declared.hwdb.Hwdb.{Hwdb};
 ghost use Rattle.eval_laws.specs.LookUps.{HasNoValue, IsFirstAnswer, IsLastValue, texts_of};
 

@@ -63,12 +63,12 @@ use Rattle.eval_commands.specs.Hwdb.{hwdb_of}
 use Rattle.eval_commands.specs.UdevHwdb.{udev_hwdb_of}
 use Rattle.eval_commands.specs.Words.{command_words, udev_words}
 use Rattle.eval_acts.specs.Acts.{act_step}
-use Rattle.eval_acts.specs.LookUpNeeds.{has_modalias}
-use Rattle.eval_acts.specs.LookUps.{found}
+use Rattle.eval_lookups.specs.LookUpNeeds.{has_modalias}
+use Rattle.eval_lookups.specs.LookUps.{found}
 use Rattle.eval_acts.specs.Printed.{line_property, printed_properties}
 use Rattle.eval_acts.specs.RootImports.{file_properties}
 use Rattle.eval_acts.specs.Unread.{first_unread}
-use Rattle.eval_acts.specs.UsbModalias.{usb_modalias}
+use Rattle.eval_lookups.specs.UsbModalias.{usb_modalias}
 use Rattle.eval_assignments.specs.Escapes.{escape_of}
 use Rattle.eval_assignments.specs.Steps.{set_step}
 use Rattle.eval_rules.specs.Idle.{is_idle_by}

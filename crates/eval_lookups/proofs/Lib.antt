@@ -1,0 +1,4 @@
+pub mod Filtering
+pub mod Finding
+pub mod Lacking
+pub mod Seeing

@@ -1,0 +1,4 @@
+pub mod LookUps
+pub mod LookUpNeeds
+pub mod UsbModalias
+pub mod Inner

@@ -70,3 +70,4 @@ pub mod PrintedGiven
 pub mod PrintedActs
 pub mod UsbModaliases
 pub mod Unread
+pub mod Scopes

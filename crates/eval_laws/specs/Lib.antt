@@ -18,3 +18,4 @@ pub mod Reaching
 pub mod Acting
 pub mod Naming
 pub mod PrintedLines
+pub mod Scopes

@@ -42,6 +42,7 @@ ghost use Rattle.eval_assignments.specs.Runs.{made_before};
 ghost use Rattle.eval_assignments.specs.Steps.{set_step};
 ghost use Rattle.eval_laws.specs.AssignmentLaws.{Keeps};
 ghost use Rattle.eval_laws.specs.Making.{IsAssigned, after_option, after_text, is_made};
+ghost use Rattle.eval_laws.specs.Scopes.{but_for};
 
 /// `=` and `:=` leave just the tags or links that are given, each once: the first, and after it what they leave of
 /// the others without that one.
@@ -141,6 +142,12 @@ pub fn each_option_sets_what_it_names()
     ensures nowatch { (r : Rule) (o : AssignOperator) (s : Scene) → is_final s.finals key.Watch ≡ false
         → (after_option r o option.NoWatch s).watch ≡ Some false }
     ensures persist { (r : Rule) (o : AssignOperator) (s : Scene) → (after_option r o option.DbPersist s).persist ≡ true }
+{}
+
+/// An assignment changes nothing but what it is about, the keys that are final, and the notes: with ENV the properties of other
+/// names stay, each in its place.
+pub fn an_assignment_changes_nothing_else()
+    ensures { (r : Rule) (a : Assignment) (s : Scene) → but_for a.change (set_step r s a) ≡ but_for a.change s }
 {}
 
 /// A RUN that is not there, and whose written text is not empty, is the last of the runs after `+=`, and the only

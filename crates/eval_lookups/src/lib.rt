@@ -3,10 +3,10 @@
 #![tactic(auto)]
 
 mod candidates;
-mod lookup_needs;
 mod lookups;
+mod needs;
 mod seen;
 mod usb_modalias;
 
-pub use lookup_needs::lookup_needs;
 pub use lookups::look_up;
+pub use needs::lookup_needs;

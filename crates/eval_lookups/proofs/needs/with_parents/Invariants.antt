@@ -1,6 +1,6 @@
 use Rattle.std.proofs.Common.{◌≡◌, ◌++◌, map, drop, option_map}
 use Rattle.eval_lookups.specs.LookUpNeeds.{modalias_words, parent_seen}
-use Rattle.eval_lookups.proofs.lookup_needs.with_parents.Given as goal
+use Rattle.eval_lookups.proofs.needs.with_parents.Given as goal
 
 abbrev pub invariant-loop-device : goal.invariant-loop-device
 invariant-loop-device l =

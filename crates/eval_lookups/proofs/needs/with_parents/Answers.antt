@@ -3,7 +3,7 @@ use Rattle.text_bytes.specs.declared.profile.Profile.TheVariants.{Udev}
 use Rattle.eval_lookups.specs.LookUps.{candidate, candidate_with}
 use Rattle.eval_lookups.proofs.Lacking.{last_word}
 use Rattle.eval_lookups.proofs.Seeing.{next_item}
-use Rattle.eval_lookups.proofs.lookup_needs.with_parents.Goals as goal
+use Rattle.eval_lookups.proofs.needs.with_parents.Goals as goal
 
 pub returns-then-branch : goal.returns-then-branch
 returns-then-branch c =

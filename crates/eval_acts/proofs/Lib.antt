@@ -1,0 +1,5 @@
+pub mod Lines
+pub mod Plain
+pub mod Runs
+pub mod Setting
+pub mod Nothing

@@ -1,0 +1,11 @@
+pub mod BuiltinRuns
+pub mod Imports
+pub mod RootImports
+pub mod Stored
+pub mod Reaching
+pub mod Acts
+pub mod Questions
+pub mod ActTexts
+pub mod Printed
+pub mod Inner
+pub mod Unread

@@ -6,7 +6,7 @@ use Rattle.std.specs.Option.{option_map_or}
 use Rattle.text_bytes.specs.Names.{colon, dot, minus}
 use Rattle.text_bytes.specs.Numbers.{is_decimal}
 use Rattle.text_bytes.specs.Texts.{following, split_once}
-use Rattle.text_tables.specs.Texts.{Text}
+use Rattle.text_bytes.specs.Text.{Text}
 use Rattle.builtin_devices.specs.Addresses.{address_of}
 use Rattle.builtin_chains.specs.declared.kinds.Kind.{Kind}
 use Rattle.builtin_chains.specs.declared.kinds.Kind.TheVariants as kind

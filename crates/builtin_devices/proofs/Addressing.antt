@@ -8,7 +8,7 @@ use Rattle.text_bytes.specs.Names.{colon}
 use Rattle.text_bytes.specs.Numbers.{decimal, decimal_below, is_digit}
 use Rattle.text_bytes.specs.Texts.{is_empty, split_once}
 use Rattle.text_core.proofs.Cutting.{split_none, split_some}
-use Rattle.text_tables.specs.Texts.{Text}
+use Rattle.text_bytes.specs.Text.{Text}
 use Rattle.builtin_devices.specs.Addresses.{address_of, of_numbers}
 use Rattle.builtin_devices.specs.AddressSteps.{before_colon, stepped, with_number, with_unit}
 use Rattle.builtin_devices.specs.declared.addresses.Address.{Address}

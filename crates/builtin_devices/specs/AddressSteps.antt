@@ -4,7 +4,7 @@ use Rattle.std.specs.Option.{option_and_then}
 use Rattle.text_bytes.specs.Names.{colon}
 use Rattle.text_bytes.specs.Numbers.{decimal_below}
 use Rattle.text_bytes.specs.Texts.{split_once}
-use Rattle.text_tables.specs.Texts.{Text}
+use Rattle.text_bytes.specs.Text.{Text}
 use Rattle.builtin_devices.specs.declared.addresses.Address.{Address}
 
 -- a number and what follows it

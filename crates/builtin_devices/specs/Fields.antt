@@ -5,7 +5,7 @@ use Rattle.std.specs.Char.{is_ascii_hexdigit, to_ascii_lowercase}
 use Rattle.std.specs.List.{list_all, slice_split}
 use Rattle.text_bytes.specs.Names.{digit_zero}
 use Rattle.text_bytes.specs.Texts.{is_empty}
-use Rattle.text_tables.specs.Texts.{Text}
+use Rattle.text_bytes.specs.Text.{Text}
 
 -- whether a text is one hexadecimal digit or more, and at most so many
 unfoldable pub is_field : ℕ → Text → Bool

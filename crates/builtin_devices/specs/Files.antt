@@ -3,7 +3,7 @@ use Rattle.std.specs.Prelude.{◌-◌, ◌&&◌, List, [], Option, Some, None, f
 use Rattle.std.specs.List.{ends_with, starts_with}
 use Rattle.text_bytes.specs.Names.{slash}
 use Rattle.text_bytes.specs.Texts.{begins_with}
-use Rattle.text_tables.specs.Texts.{Text}
+use Rattle.text_bytes.specs.Text.{Text}
 use Rattle.text_tables.specs.Pairs.{Pair, value_of, with_values}
 use Rattle.device_core.specs.Values.{DeviceValue, EventValue, described}
 

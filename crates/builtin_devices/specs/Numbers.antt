@@ -8,7 +8,8 @@ use Rattle.hex.specs.Hex.{decode_of}
 use Rattle.text_bytes.specs.Names.{digit_zero, minus, plus, is_whitespace}
 use Rattle.text_bytes.specs.Numbers.{is_digit}
 use Rattle.text_bytes.specs.Texts.{begins_with, is_empty, skip_while}
-use Rattle.text_tables.specs.Texts.{Text, same_text}
+use Rattle.text_bytes.specs.Text.{Text}
+use Rattle.text_tables.specs.Texts.{same_text}
 use Rattle.text_links.specs.Kernels.{longest_end}
 use Rattle.builtin_devices.specs.declared.numbers.Base.{Base}
 use Rattle.builtin_devices.specs.declared.numbers.Base.TheVariants.{AsWritten, Decimal, Hexadecimal}

@@ -1,6 +1,7 @@
 -- The outcome of a builtin, and what the block would have to report for it.
 use Rattle.std.specs.Prelude.{Bool, true, false, List, [], ◌∷◌, ◌++◌, is_some, if◌then◌else◌, codes}
-use Rattle.text_tables.specs.Texts.{Text, same_text, with_texts}
+use Rattle.text_bytes.specs.Text.{Text}
+use Rattle.text_tables.specs.Texts.{same_text, with_texts}
 use Rattle.text_tables.specs.Pairs.{Pair}
 use Rattle.text_links.specs.Kernels.{last_component}
 use Rattle.device_core.specs.Values.{DeviceValue, EventValue}

@@ -4,7 +4,8 @@ ghost use Rattle.std.specs.Prelude.{option_map, nat_eq, take, drop, false, ℕ, 
 ghost use Rattle.std.specs.List.{ends_with};
 ghost use Rattle.text_bytes.specs.Names.{slash};
 ghost use Rattle.text_bytes.specs.Texts.{begins_with};
-ghost use Rattle.text_tables.specs.Texts.{Text, is_among, same_text};
+ghost use Rattle.text_bytes.specs.Text.{Text};
+ghost use Rattle.text_tables.specs.Texts.{is_among, same_text};
 ghost use Rattle.text_tables.specs.Pairs.{with_values};
 ghost use Rattle.builtin_devices.specs.Files.{described_devices, files_below, subsystem_file};
 ghost use Rattle.builtin_devices.specs.Folders.{described_path, described_paths, device_in, files_in, with_file, with_files};

@@ -4,7 +4,7 @@ use Rattle.std.specs.List.{list_any, slice_split, onto_first}
 use Rattle.std.proofs.lemmas.Bool.{or_parts}
 use Rattle.std.proofs.lemmas.List.{map-append, reverse-append}
 use Rattle.text_bytes.specs.Names.{digit_zero, space}
-use Rattle.text_tables.specs.Texts.{Text}
+use Rattle.text_bytes.specs.Text.{Text}
 use Rattle.builtin_devices.specs.Numbers.{digits_in, number_in, written}
 use Rattle.builtin_input.specs.Bitmaps.{bitmap, has, is_space, word}
 

@@ -1,6 +1,6 @@
 -- What an input device reports about itself.
 use Rattle.std.specs.Prelude.{ℕ, ◌^◌, ◌-◌, [], unwrap_or, codes}
-use Rattle.text_tables.specs.Texts.{Text}
+use Rattle.text_bytes.specs.Text.{Text}
 use Rattle.text_tables.specs.Pairs.{value_of}
 use Rattle.device_core.specs.Values.{DeviceValue}
 use Rattle.builtin_devices.specs.Numbers.{number_in}

@@ -1,6 +1,6 @@
 -- The kinds of input devices.
 use Rattle.std.specs.Prelude.{Bool, not, ◌&&◌, ◌||◌, ◌==◌, nat_le, List, [], ◌∷◌, filter, codes}
-use Rattle.text_tables.specs.Texts.{Text}
+use Rattle.text_bytes.specs.Text.{Text}
 use Rattle.builtin_input.specs.Bitmaps.{has, count_of}
 use Rattle.builtin_input.specs.Groups.{is_in}
 use Rattle.builtin_input.specs.Capabilities.{CapabilitiesValue}

@@ -4,7 +4,7 @@
 ghost use Rattle.std.specs.Prelude.{◌≡◌, ℕ, suc, ◌∷◌, ◌++◌, [], true, false};
 ghost use Rattle.std.specs.List.{list_any};
 ghost use Rattle.text_bytes.specs.Names.{digit_zero, space};
-ghost use Rattle.text_tables.specs.Texts.{Text};
+ghost use Rattle.text_bytes.specs.Text.{Text};
 ghost use Rattle.builtin_input.specs.Bitmaps.{bitmap, has, is_space, word};
 ghost use Rattle.builtin_input.specs.Capabilities.{CapabilitiesValue, nothing};
 ghost use Rattle.builtin_input.specs.Kinds.{is_of, is_plain_mouse, kinds};

@@ -1,6 +1,6 @@
 -- What evaluating rules asks beyond the event itself.
 use Rattle.std.specs.Prelude.{Bool, List, Option}
-use Rattle.text_tables.specs.Texts.{Text}
+use Rattle.text_bytes.specs.Text.{Text}
 use Rattle.text_tables.specs.Pairs.{Pair}
 use Rattle.hwdb_lookup.specs.declared.entry.Entry.{Entry}
 use Rattle.device_core.specs.Values.{EventValue}

@@ -24,10 +24,11 @@ pub struct RootFiles {
 }
 
 impl Model for RootFiles {
-    ghost use Rattle.std.specs.Prelude.{List, ℕ, map};
+    ghost use Rattle.std.specs.Prelude.{List, map};
+    ghost use Rattle.text_bytes.specs.Text.{Text};
     ghost use Rattle.builtin_knowledge.specs.declared.root_files.RootFile.{RootFile};
 
-    ghost Value = { List (List ℕ × RootFile) };
+    ghost Value = { List (Text × RootFile) };
 
     ghost view = { λ f. map (λ e. (e.0.items, e.1)) f.held.entries };
 }

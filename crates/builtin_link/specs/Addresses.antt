@@ -3,7 +3,8 @@ use Rattle.std.specs.Prelude.{ℕ, Bool, false, List, Option, Some, None, is_som
 use Rattle.std.specs.List.{list_all, list_any}
 use Rattle.std.specs.Option.{option_map_or, option_or}
 use Rattle.text_bytes.specs.Names.{colon, dot, minus}
-use Rattle.text_tables.specs.Texts.{Text, same_text}
+use Rattle.text_bytes.specs.Text.{Text}
+use Rattle.text_tables.specs.Texts.{same_text}
 use Rattle.builtin_devices.specs.Fields.{marked_digits}
 
 -- the digits of so many bytes: fields of one or two digits with `:` or with `-` in between, or half as many of one to

@@ -7,7 +7,7 @@ use Rattle.text_bytes.specs.Texts.{begins_with, split_once}
 use Rattle.text_core.specs.Fits.{fits}
 use Rattle.text_core.specs.Fnmatch.{fnmatch_items}
 use Rattle.text_core.specs.declared.reading.Reading.TheVariants.{Exact}
-use Rattle.text_tables.specs.Texts.{Text}
+use Rattle.text_bytes.specs.Text.{Text}
 use Rattle.text_tables.specs.Pairs.{Pair, value_of}
 
 -- whether a word is negated

@@ -1,7 +1,7 @@
 -- What `Type=` is compared with.
 use Rattle.std.specs.Prelude.{ℕ, ◌^◌, ◌-◌, ◌==◌, List, [], ◌∷◌, codes, Option, Some, None, option_and_then, if◌then◌else◌}
 use Rattle.std.specs.Option.{option_or}
-use Rattle.text_tables.specs.Texts.{Text}
+use Rattle.text_bytes.specs.Text.{Text}
 use Rattle.device_core.specs.Values.{EventValue}
 use Rattle.builtin_devices.specs.Devices.{attribute, some_text, type_of}
 use Rattle.builtin_devices.specs.Numbers.{number_in}

@@ -3,7 +3,8 @@ use Rattle.std.specs.Prelude.{◌%◌, ◌/◌, ◌==◌, not, Bool, false, List
 use Rattle.std.specs.Prelude.{Option, Some, None, if◌then◌else◌}
 use Rattle.std.specs.Option.{option_map_or}
 use Rattle.text_bytes.specs.Texts.{is_empty}
-use Rattle.text_tables.specs.Texts.{Text, is_among}
+use Rattle.text_bytes.specs.Text.{Text}
+use Rattle.text_tables.specs.Texts.{is_among}
 use Rattle.text_tables.specs.Pairs.{Pair, value_of}
 use Rattle.device_core.specs.Values.{EventValue}
 use Rattle.builtin_devices.specs.Devices.{attribute}

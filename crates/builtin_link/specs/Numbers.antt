@@ -1,6 +1,6 @@
 -- Numbers that an interface reports about itself.
 use Rattle.std.specs.Prelude.{ℕ, ◌^◌, ◌-◌, Option, option_and_then}
-use Rattle.text_tables.specs.Texts.{Text}
+use Rattle.text_bytes.specs.Text.{Text}
 use Rattle.device_core.specs.Values.{EventValue}
 use Rattle.builtin_devices.specs.Devices.{attribute}
 use Rattle.builtin_devices.specs.Numbers.{number_in}

@@ -2,7 +2,8 @@
 //!
 //! Each function here is empty: its contract is the law.
 ghost use Rattle.std.specs.Prelude.{◌≡◌, ◌⊎◌, ◌∷◌, List, [], None, Some, codes, false, is_some, true};
-ghost use Rattle.text_tables.specs.Texts.{Text, is_among, same_text};
+ghost use Rattle.text_bytes.specs.Text.{Text};
+ghost use Rattle.text_tables.specs.Texts.{is_among, same_text};
 ghost use Rattle.text_tables.specs.Pairs.{Pair, value_of};
 ghost use Rattle.device_core.specs.Values.{EventValue};
 ghost use Rattle.builtin_link.specs.Globs.{fits_some, has_plain, passes};

@@ -4,7 +4,7 @@ use Rattle.std.specs.Char.{to_ascii_uppercase}
 use Rattle.std.specs.List.{starts_with}
 use Rattle.std.specs.Option.{option_or}
 use Rattle.text_bytes.specs.Names.{colon, dot, minus}
-use Rattle.text_tables.specs.Texts.{Text}
+use Rattle.text_bytes.specs.Text.{Text}
 use Rattle.builtin_devices.specs.Fields.{marked_digits}
 
 -- The twelve lower case digits of an address of six bytes: six fields of one or two digits with `:` or with `-` in

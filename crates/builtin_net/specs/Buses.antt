@@ -7,7 +7,8 @@ use Rattle.std.specs.List.{before_first, list_all, prefix_len}
 use Rattle.text_bytes.specs.Names.{colon, dot, digit_zero, slash}
 use Rattle.text_bytes.specs.Numbers.{decimal_below}
 use Rattle.text_bytes.specs.Texts.{begins_with, following, split_once}
-use Rattle.text_tables.specs.Texts.{Text, same_text}
+use Rattle.text_bytes.specs.Text.{Text}
+use Rattle.text_tables.specs.Texts.{same_text}
 use Rattle.device_core.specs.Values.{DeviceValue, EventValue}
 use Rattle.builtin_devices.specs.Devices.{above, is_of, kernel_of, parents_of, some_text}
 use Rattle.builtin_devices.specs.Numbers.{name_number, number_in}

@@ -5,7 +5,7 @@ use Rattle.std.specs.Option.{option_map_or}
 use Rattle.text_bytes.specs.Names.{colon, dot}
 use Rattle.text_bytes.specs.Texts.{split_once}
 use Rattle.link_files.specs.Booleans.{is_yes}
-use Rattle.text_tables.specs.Texts.{Text}
+use Rattle.text_bytes.specs.Text.{Text}
 use Rattle.device_core.specs.Values.{DeviceValue, EventValue}
 use Rattle.builtin_devices.specs.Devices.{kernel_of}
 use Rattle.builtin_devices.specs.Files.{file_at}

@@ -1,6 +1,7 @@
 -- Which interfaces have names, and how these begin.
 use Rattle.std.specs.Prelude.{ℕ, ◌==◌, Bool, true, false, codes, Option, Some, None, if◌then◌else◌}
-use Rattle.text_tables.specs.Texts.{Text, same_text}
+use Rattle.text_bytes.specs.Text.{Text}
+use Rattle.text_tables.specs.Texts.{same_text}
 use Rattle.builtin_net.specs.declared.prefixes.Prefix.{Prefix}
 use Rattle.builtin_net.specs.declared.prefixes.Prefix.TheVariants.{Ethernet, Wireless, Modem, InfiniBand, SerialLine}
 

@@ -7,7 +7,8 @@ use Rattle.std.specs.List.{after_last, list_all, list_any, starts_with}
 use Rattle.std.specs.Option.{option_map_or, option_or}
 use Rattle.text_bytes.specs.Names.{slash}
 use Rattle.text_bytes.specs.Texts.{is_empty, split_once}
-use Rattle.text_tables.specs.Texts.{Text, same_text}
+use Rattle.text_bytes.specs.Text.{Text}
+use Rattle.text_tables.specs.Texts.{same_text}
 use Rattle.text_tables.specs.Pairs.{Pair}
 use Rattle.device_core.specs.Values.{DeviceValue, EventValue}
 use Rattle.builtin_devices.specs.Devices.{above, is_of, kernel_of, parents_of}

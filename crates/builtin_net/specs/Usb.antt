@@ -2,7 +2,8 @@
 use Rattle.std.specs.Prelude.{ℕ, ◌==◌, [], ◌++◌, codes, decimal, map, Option, option_map, option_and_then, if◌then◌else◌}
 use Rattle.text_bytes.specs.Names.{colon, dot, minus}
 use Rattle.text_bytes.specs.Texts.{following, split_once}
-use Rattle.text_tables.specs.Texts.{Text, same_text}
+use Rattle.text_bytes.specs.Text.{Text}
+use Rattle.text_tables.specs.Texts.{same_text}
 use Rattle.builtin_devices.specs.Numbers.{number_in}
 use Rattle.builtin_devices.specs.declared.numbers.Base.TheVariants.{Decimal}
 use Rattle.builtin_net.specs.Words.{most_number}

@@ -2,7 +2,8 @@
 use Rattle.std.specs.Prelude.{◌&&◌, [], ◌++◌, codes, Option, Some, None, option_and_then}
 use Rattle.std.specs.Bool.{then_some}
 use Rattle.text_bytes.specs.Numbers.{is_decimal}
-use Rattle.text_tables.specs.Texts.{Text, same_text}
+use Rattle.text_bytes.specs.Text.{Text}
+use Rattle.text_tables.specs.Texts.{same_text}
 use Rattle.text_tables.specs.Pairs.{Pair}
 use Rattle.device_core.specs.Values.{DeviceValue, EventValue}
 use Rattle.builtin_devices.specs.Devices.{device_by}

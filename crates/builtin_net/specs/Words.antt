@@ -5,7 +5,7 @@ use Rattle.std.specs.Option.{option_or}
 use Rattle.std.specs.Str.{is_utf8}
 use Rattle.text_bytes.specs.Escapes.{is_control}
 use Rattle.text_bytes.specs.Numbers.{decimal_below, is_digit}
-use Rattle.text_tables.specs.Texts.{Text}
+use Rattle.text_bytes.specs.Text.{Text}
 use Rattle.text_tables.specs.Pairs.{Pair}
 
 -- the greatest number of 32 bits

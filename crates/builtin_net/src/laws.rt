@@ -3,7 +3,7 @@
 //! Each function here is empty: its contract is the law.
 ghost use Rattle.std.specs.Prelude.{◌≡◌, ◌≤◌, All, List, None, Some, [], codes, false, length, not};
 ghost use Rattle.link_files.specs.Booleans.{is_yes};
-ghost use Rattle.text_tables.specs.Texts.{Text};
+ghost use Rattle.text_bytes.specs.Text.{Text};
 ghost use Rattle.text_tables.specs.Pairs.{Pair, value_of};
 ghost use Rattle.device_core.specs.Values.{EventValue};
 ghost use Rattle.builtin_net.specs.Allowed.{interface, permission, permission_of_all};

@@ -7,7 +7,7 @@ use Rattle.text_bytes.specs.Names.{underscore}
 use Rattle.text_bytes.specs.Texts.{ends_in}
 use Rattle.text_links.specs.Underscores.{underscored}
 use Rattle.text_tables.specs.Pairs.{Pair}
-use Rattle.text_tables.specs.Texts.{Text}
+use Rattle.text_bytes.specs.Text.{Text}
 use Rattle.device_core.specs.Values.{EventValue}
 use Rattle.builtin_devices.specs.Outcomes.{failing, succeeding}
 use Rattle.builtin_path.specs.Path.{is_whole, needs, path_id, properties_of, tag, tag_byte}

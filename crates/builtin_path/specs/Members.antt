@@ -2,7 +2,7 @@
 use Rattle.std.specs.Prelude.{ℕ, ◌+◌, ◌-◌, not, Bool, List, [], ◌∷◌, codes, length, drop, take, nat_eq, Option, slice_get}
 use Rattle.std.specs.List.{concat, prefix_len, starts_with}
 use Rattle.std.specs.Option.{option_and_then}
-use Rattle.text_tables.specs.Texts.{Text}
+use Rattle.text_bytes.specs.Text.{Text}
 use Rattle.device_core.specs.Values.{DeviceValue}
 use Rattle.text_links.specs.Kernels.{last_component}
 use Rattle.builtin_devices.specs.Devices.{attribute, is_text}

@@ -5,7 +5,7 @@ use Rattle.std.specs.List.{concat, prefix_len}
 use Rattle.std.specs.Option.{option_to_list}
 use Rattle.text_bytes.specs.Numbers.{is_digit}
 use Rattle.text_tables.specs.Pairs.{value_of}
-use Rattle.text_tables.specs.Texts.{Text}
+use Rattle.text_bytes.specs.Text.{Text}
 use Rattle.device_core.specs.Values.{DeviceValue, EventValue}
 use Rattle.text_links.specs.Kernels.{last_component}
 use Rattle.builtin_devices.specs.Devices.{device_by, is_text, type_of}

@@ -8,7 +8,8 @@ use Rattle.text_bytes.specs.Numbers.{is_digit}
 use Rattle.text_bytes.specs.Texts.{ends_in}
 use Rattle.text_links.specs.Underscores.{underscored}
 use Rattle.text_tables.specs.Pairs.{Pair}
-use Rattle.text_tables.specs.Texts.{Text, with_texts}
+use Rattle.text_bytes.specs.Text.{Text}
+use Rattle.text_tables.specs.Texts.{with_texts}
 use Rattle.device_core.specs.Values.{DeviceValue, EventValue}
 use Rattle.builtin_devices.specs.Devices.{is_text, type_of}
 use Rattle.builtin_devices.specs.Outcomes.{OutcomeValue, failing, succeeding}

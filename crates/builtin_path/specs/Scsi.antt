@@ -5,7 +5,8 @@ use Rattle.std.specs.Prelude.{slice_index, take}
 use Rattle.std.specs.List.{concat, prefix_len}
 use Rattle.text_bytes.specs.Names.{close_brace, minus, open_brace, slash}
 use Rattle.text_bytes.specs.Texts.{begins_with, split_once}
-use Rattle.text_tables.specs.Texts.{Text, is_among, same_text}
+use Rattle.text_bytes.specs.Text.{Text}
+use Rattle.text_tables.specs.Texts.{is_among, same_text}
 use Rattle.text_links.specs.Encoded.{small_digits}
 use Rattle.text_links.specs.Kernels.{last_component}
 use Rattle.device_core.specs.Values.{DeviceValue}

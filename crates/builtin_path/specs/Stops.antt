@@ -1,6 +1,6 @@
 -- What one device of the way adds to a path.
 use Rattle.std.specs.Prelude.{ℕ, Bool, true, false, List, [], ◌∷◌, length, Option, Some, None}
-use Rattle.text_tables.specs.Texts.{Text}
+use Rattle.text_bytes.specs.Text.{Text}
 use Rattle.device_core.specs.Values.{DeviceValue}
 use Rattle.builtin_path.specs.declared.stops.Next.{Next}
 use Rattle.builtin_path.specs.declared.stops.Next.TheVariants.{On, Ends, Fails}

@@ -4,7 +4,8 @@ use Rattle.std.specs.Prelude.{◌^◌, Option, Some, None, take}
 use Rattle.std.specs.List.{concat, prefix_len}
 use Rattle.std.specs.Option.{option_and_then, option_map, option_map_or}
 use Rattle.text_bytes.specs.Numbers.{decimal_below, is_digit}
-use Rattle.text_tables.specs.Texts.{Text, is_among, same_text}
+use Rattle.text_bytes.specs.Text.{Text}
+use Rattle.text_tables.specs.Texts.{is_among, same_text}
 use Rattle.text_links.specs.Kernels.{kernel_name, last_component}
 use Rattle.device_core.specs.Values.{DeviceValue, EventValue}
 use Rattle.builtin_devices.specs.Devices.{attribute}

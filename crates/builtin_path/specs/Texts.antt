@@ -1,7 +1,7 @@
 -- What a text has in it.
 use Rattle.std.specs.Prelude.{ℕ, Bool, drop, length, nat_eq, position, Option}
 use Rattle.std.specs.List.{list_any, range_with_len, starts_with}
-use Rattle.text_tables.specs.Texts.{Text}
+use Rattle.text_bytes.specs.Text.{Text}
 
 -- whether a text is at a place of another
 abbrev pub is_at : (wanted text : Text) → ℕ → Bool

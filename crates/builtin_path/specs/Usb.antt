@@ -4,7 +4,8 @@ use Rattle.std.specs.Prelude.{unwrap_or, slice_get}
 use Rattle.std.specs.Option.{option_and_then}
 use Rattle.text_bytes.specs.Names.{minus}
 use Rattle.text_bytes.specs.Texts.{split_once}
-use Rattle.text_tables.specs.Texts.{Text, same_text}
+use Rattle.text_bytes.specs.Text.{Text}
+use Rattle.text_tables.specs.Texts.{same_text}
 use Rattle.text_links.specs.Kernels.{kernel_name}
 use Rattle.device_core.specs.Values.{DeviceValue}
 use Rattle.builtin_devices.specs.Devices.{attribute, is_text, type_of}

@@ -2,7 +2,7 @@
 ghost use Rattle.std.specs.Prelude.{◌≡◌, ◌∷◌, ◌++◌, ◌≤◌, [], List, Option, false, length};
 ghost use Rattle.std.specs.List.{join_with_byte};
 ghost use Rattle.text_bytes.specs.Names.{minus};
-ghost use Rattle.text_tables.specs.Texts.{Text};
+ghost use Rattle.text_bytes.specs.Text.{Text};
 ghost use Rattle.device_core.specs.Values.{EventValue};
 ghost use Rattle.builtin_path.specs.Path.{path_id, tag};
 ghost use Rattle.builtin_path.specs.Usb.{port_start};

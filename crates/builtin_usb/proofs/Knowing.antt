@@ -1,6 +1,6 @@
 -- What is known of a device, by its parts.
 use Rattle.std.proofs.Common.{◌≡◌, [], Option, ap, ◌∙◌, codes, unwrap_or}
-use Rattle.text_tables.specs.Texts.{Text}
+use Rattle.text_bytes.specs.Text.{Text}
 use Rattle.device_core.specs.Values.{DeviceValue}
 use Rattle.builtin_usb.specs.Identities.{IdentityValue, from_first, known_as, serial_of}
 use Rattle.builtin_devices.specs.Devices.{attribute}

@@ -9,7 +9,7 @@ use Rattle.std.specs.List.{cons_option, filter_map, list_all, list_any, starts_w
 use Rattle.std.specs.Option.{option_map}
 use Rattle.text_bytes.specs.Names.{colon}
 use Rattle.text_bytes.specs.Texts.{begins_with, ends_in}
-use Rattle.text_tables.specs.Texts.{Text}
+use Rattle.text_bytes.specs.Text.{Text}
 use Rattle.text_tables.specs.Pairs.{Pair}
 use Rattle.device_core.specs.Values.{DeviceValue, EventValue}
 use Rattle.builtin_devices.specs.Outcomes.{OutcomeValue, needs_of}

@@ -1,7 +1,8 @@
 -- Words that are added in several steps.
 use Rattle.std.proofs.Common.{◌≡◌, List, ◌++◌, ap, sym, ◌∙◌}
 use Rattle.std.proofs.lemmas.List.Sums.{fold-append}
-use Rattle.text_tables.specs.Texts.{Text, with_text, with_texts}
+use Rattle.text_bytes.specs.Text.{Text}
+use Rattle.text_tables.specs.Texts.{with_text, with_texts}
 
 two_more : (held a b : List Text) → with_texts (with_texts held a) b ≡ with_texts held (a ++ b)
 two_more held a b = sym (fold-append with_text held a b)

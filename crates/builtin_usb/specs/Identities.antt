@@ -4,7 +4,7 @@ use Rattle.std.specs.Prelude.{filter_map, codes, if◌then◌else◌}
 use Rattle.std.specs.List.{list_all}
 use Rattle.text_bytes.specs.Names.{comma, delete, minus, space, underscore}
 use Rattle.text_bytes.specs.Texts.{is_empty}
-use Rattle.text_tables.specs.Texts.{Text}
+use Rattle.text_bytes.specs.Text.{Text}
 use Rattle.text_tables.specs.Pairs.{Pair}
 use Rattle.text_links.specs.Characters.{value_safe}
 use Rattle.text_links.specs.Encoded.{encoded}

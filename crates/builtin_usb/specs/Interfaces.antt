@@ -4,7 +4,7 @@ use Rattle.std.specs.Prelude.{fold, flat_map, Option, Some, None, if◌then◌el
 use Rattle.std.specs.List.{list_any, filter_map}
 use Rattle.text_bytes.specs.Names.{colon}
 use Rattle.text_bytes.specs.Texts.{is_empty}
-use Rattle.text_tables.specs.Texts.{Text}
+use Rattle.text_bytes.specs.Text.{Text}
 use Rattle.text_links.specs.Encoded.{small_digits}
 use Rattle.builtin_usb.specs.declared.interfaces.Interface.{Interface}
 

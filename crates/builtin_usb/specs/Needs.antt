@@ -1,6 +1,6 @@
 -- What the block would have to report for usb_id, beside what the parts of the builtin say.
 use Rattle.std.specs.Prelude.{Bool, ◌||◌, List, [], ◌∷◌, ◌++◌, Option, Some, None, codes, if◌then◌else◌}
-use Rattle.text_tables.specs.Texts.{Text}
+use Rattle.text_bytes.specs.Text.{Text}
 use Rattle.device_core.specs.Values.{DeviceValue, EventValue}
 use Rattle.builtin_devices.specs.Outcomes.{lacking}
 use Rattle.builtin_usb.specs.Kinds.{is_storage}

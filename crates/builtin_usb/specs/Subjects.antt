@@ -1,6 +1,6 @@
 -- Which devices usb_id is about.
 use Rattle.std.specs.Prelude.{Bool, false, ◌&&◌, ◌||◌, List, [], ◌∷◌, Option, Some, None, is_none, is_some, codes, if◌then◌else◌}
-use Rattle.text_tables.specs.Texts.{Text}
+use Rattle.text_bytes.specs.Text.{Text}
 use Rattle.device_core.specs.Values.{DeviceValue, EventValue}
 use Rattle.builtin_devices.specs.Devices.{above, is_of, is_text, parents_of, type_of}
 use Rattle.builtin_usb.specs.Kinds.{class_of, takes_scsi}

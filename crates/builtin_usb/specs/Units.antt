@@ -2,7 +2,7 @@
 use Rattle.std.specs.Prelude.{List, [], ◌∷◌, ◌++◌, Option, Some, None, is_none, decimal, codes, if◌then◌else◌}
 use Rattle.std.specs.Option.{option_and}
 use Rattle.text_bytes.specs.Names.{colon}
-use Rattle.text_tables.specs.Texts.{Text}
+use Rattle.text_bytes.specs.Text.{Text}
 use Rattle.device_core.specs.Values.{DeviceValue}
 use Rattle.builtin_devices.specs.Addresses.{address_of}
 use Rattle.builtin_devices.specs.Devices.{attribute, kernel_of}

@@ -1,5 +1,6 @@
 -- What `compare` does with two lines of `events`.
 use Rattle.std.specs.Prelude.{◌≡◌, ◌++◌, ℕ, ◌⊎◌, List, Option, max}
+use Rattle.text_bytes.specs.Text.{Text}
 use Rattle.text_bytes.specs.declared.source_file.SourceFile.{SourceFile}
 use Rattle.engine_ends.specs.Readers.{is_for_people}
 use Rattle.engine_ends.specs.declared.line.Line.{Line}
@@ -45,14 +46,14 @@ pub record AreReportedOnBoth (may : MayAnswer) (old new : Line) (old_files new_f
 
 -- the files of the old line, and those of the new one with the index, are those that the lines ask for, and where files
 -- were looked for is reported if one of the lines has none
-pub record AreReadForBoth (may : MayAnswer) (old new : Line) (old_files new_files : List SourceFile) (index : Option (List ℕ))
+pub record AreReadForBoth (may : MayAnswer) (old new : Line) (old_files new_files : List SourceFile) (index : Option Text)
     (report : Report) : Type 0 where
   pub old_are : AreFilesFor may old old_files
   pub new_are : AreReadFor may new new_files index
   pub reported : AreReportedOnBoth may old new old_files new_files report
 
 -- the files of the old line, and those of the new one with the index, are what can be read of what the lines ask for
-pub record AreReadOfBoth (may : MayAnswer) (old new : Line) (old_files new_files : List SourceFile) (index : Option (List ℕ))
+pub record AreReadOfBoth (may : MayAnswer) (old new : Line) (old_files new_files : List SourceFile) (index : Option Text)
     (report : Report) : Type 0 where
   pub some_old : ReadSome
   pub some_new : ReadSome
@@ -74,16 +75,16 @@ abbrev pub IsFaultOfBoth : MayAnswer → (old new : Line) → ReadFault → Type
 IsFaultOfBoth may old new fault = IsFileFault may old fault ⊎ IsFaultOfNew may old new fault
 
 -- what is reported is written first, and then the answers to the input are compared
-abbrev pub ComparesAfter : MayAnswer → (old new : Line) → (old_files new_files : List SourceFile) → (index : Option (List ℕ)) → Report → Run
+abbrev pub ComparesAfter : MayAnswer → (old new : Line) → (old_files new_files : List SourceFile) → (index : Option Text) → Report → Run
 ComparesAfter may old new old_files new_files index report =
     RunsAfter report.lines.items report.least (ComparesFinding may old new old_files new_files index)
 
 -- For what was read of the two lines this holds, and their answers are compared after what is reported.
-pub record ComparesRead (may : MayAnswer) (Read : List SourceFile → List SourceFile → Option (List ℕ) → Report → Type 0)
+pub record ComparesRead (may : MayAnswer) (Read : List SourceFile → List SourceFile → Option Text → Report → Type 0)
     (old new : Line) (status : ℕ) (before now : Streams) : Type 0 where
   pub old_files : List SourceFile
   pub new_files : List SourceFile
-  pub index : Option (List ℕ)
+  pub index : Option Text
   pub report : Report
   pub are_read : Read old_files new_files index report
   pub over : ComparesAfter may old new old_files new_files index report status before now

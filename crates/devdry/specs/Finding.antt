@@ -1,5 +1,6 @@
 -- What is found at the paths of a root that rules import files from, and runs over that.
 use Rattle.std.specs.Prelude.{◌≡◌, ◌&&◌, ℕ, Bool, true, false, List, [], MatchBool, Option}
+use Rattle.text_bytes.specs.Text.{Text}
 use Rattle.text_bytes.specs.declared.profile.Profile.{Profile}
 use Rattle.text_bytes.specs.declared.profile.Profile.TheVariants.{Manual, Udev}
 use Rattle.text_bytes.specs.declared.source_file.SourceFile.{SourceFile}
@@ -37,18 +38,18 @@ FindsFor may line files found =
     MatchBool (does_as_udev line) (AreFound (MayInside may line.root.now) line.root.now (paths_named files) [] found) (found ≡ [])
 
 -- What the rules of the files import was looked at, and the line is run over that, the files, the index and the input.
-pub record RunsOverFound (may : MayAnswer) (line : Line) (files : List SourceFile) (index : Option (List ℕ)) (status : ℕ)
+pub record RunsOverFound (may : MayAnswer) (line : Line) (files : List SourceFile) (index : Option Text) (status : ℕ)
     (before now : Streams) : Type 0 where
   pub found : FilesFound
   pub finds : FindsFor may line files found
   pub over : RunsOver line files found index status before now
 
 -- what a line does with the files and the index that were read
-abbrev pub RunsFinding : MayAnswer → Line → (files : List SourceFile) → (index : Option (List ℕ)) → Run
+abbrev pub RunsFinding : MayAnswer → Line → (files : List SourceFile) → (index : Option Text) → Run
 RunsFinding may line files index = either (RunsOverFound may line files index) IsRefusedToRead
 
 -- What the rules of both lines import was looked at, each in its own root, and the answers of both are compared over that.
-pub record ComparesFound (may : MayAnswer) (old new : Line) (old_files new_files : List SourceFile) (index : Option (List ℕ))
+pub record ComparesFound (may : MayAnswer) (old new : Line) (old_files new_files : List SourceFile) (index : Option Text)
     (status : ℕ) (before now : Streams) : Type 0 where
   pub old_found : FilesFound
   pub new_found : FilesFound
@@ -57,5 +58,5 @@ pub record ComparesFound (may : MayAnswer) (old new : Line) (old_files new_files
   pub over : ComparesOver old new old_files new_files old_found new_found index status before now
 
 -- what `compare` does with two lines, and with the files and the index that were read
-abbrev pub ComparesFinding : MayAnswer → (old new : Line) → (old_files new_files : List SourceFile) → (index : Option (List ℕ)) → Run
+abbrev pub ComparesFinding : MayAnswer → (old new : Line) → (old_files new_files : List SourceFile) → (index : Option Text) → Run
 ComparesFinding may old new old_files new_files index = either (ComparesFound may old new old_files new_files index) IsRefusedToRead

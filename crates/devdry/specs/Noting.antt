@@ -1,5 +1,6 @@
 -- What there is to tell about files before a run.
-use Rattle.std.specs.Prelude.{◌≡◌, ℕ, Bool, true, false, if◌then◌else◌, List, [], MatchBool}
+use Rattle.std.specs.Prelude.{◌≡◌, Bool, true, false, if◌then◌else◌, List, [], MatchBool}
+use Rattle.text_bytes.specs.Text.{Text}
 use Rattle.text_bytes.specs.declared.source_file.SourceFile.{SourceFile}
 use Rattle.engine_ends.specs.declared.line.Line.{Line}
 use Rattle.devdry_files.specs.Answers.Answer.{Looked}
@@ -19,7 +20,7 @@ is_folder Folder = true
 is_folder _ = false
 
 -- whether there is a folder at the path, as the disk may show it
-abbrev pub IsThere : MayAnswer → (path : List ℕ) → Bool → Type 0
+abbrev pub IsThere : MayAnswer → (path : Text) → Bool → Type 0
 IsThere may path there = (look : Look) × may (Looked path look) × (there ≡ is_folder look)
 
 -- whether there is a folder at the root of the line, if it asks about that; otherwise nothing is looked at
@@ -27,25 +28,25 @@ abbrev pub IsRootSeen : MayAnswer → Line → Bool → Type 0
 IsRootSeen may line there = MatchBool (asks_root line) (IsThere may line.root.now there) (there ≡ false)
 
 -- the note on a folder, if there is one
-abbrev pub note_if : Bool → (path : List ℕ) → List ℕ
+abbrev pub note_if : Bool → (path : Text) → Text
 note_if there path = if there then folder_note path else []
 
 -- the note on a folder if there is one, as the disk may show it
-abbrev pub IsNoteAt : MayAnswer → (path note : List ℕ) → Type 0
+abbrev pub IsNoteAt : MayAnswer → (path note : Text) → Type 0
 IsNoteAt may path note = (there : Bool) × IsThere may path there × (note ≡ note_if there path)
 
 -- the hint on a file at the path: the note on a folder, if the line asks about that; otherwise nothing is looked at
-abbrev pub IsHintAt : MayAnswer → Line → (path hint : List ℕ) → Type 0
+abbrev pub IsHintAt : MayAnswer → Line → (path hint : Text) → Type 0
 IsHintAt may line path hint = MatchBool (asks_folder line path) (IsNoteAt may path hint) (hint ≡ [])
 
 -- the paths of the rules files in the folders of a line's root, if it asks about them; otherwise nothing is looked at
-abbrev pub AreLyingFor : MayAnswer → Line → (paths : List (List ℕ)) → Type 0
+abbrev pub AreLyingFor : MayAnswer → Line → (paths : List Text) → Type 0
 AreLyingFor may line paths = MatchBool (asks_lying line) (AreLying (MayInside may line.root.now) line.root.now paths) (paths ≡ [])
 
 -- the notes are all that there is to tell about the files that were read for the line
-pub record AreNotesOf (may : MayAnswer) (line : Line) (files : List SourceFile) (notes : List ℕ) : Type 0 where
+pub record AreNotesOf (may : MayAnswer) (line : Line) (files : List SourceFile) (notes : Text) : Type 0 where
   pub there : Bool
   pub seen : IsRootSeen may line there
-  pub lying : List (List ℕ)
+  pub lying : List Text
   pub are_lying : AreLyingFor may line lying
   pub notes_are : notes ≡ notes_of line files there lying

@@ -1,5 +1,6 @@
 -- What runs that go on after what can't be read do.
-use Rattle.std.specs.Prelude.{◌≡◌, ℕ, List, [], max}
+use Rattle.std.specs.Prelude.{◌≡◌, ℕ, [], max}
+use Rattle.text_bytes.specs.Text.{Text}
 use Rattle.text_bytes.specs.Texts.{is_empty}
 use Rattle.engine_ends.specs.declared.line.Line.{Line}
 use Rattle.engine_ends.specs.Delivery.{Delivers}
@@ -15,7 +16,7 @@ use Rattle.devdry.specs.Reading.{IsRefusedToRead}
 
 -- The error output has what is reported, and the run after that goes on from there; the status is the run's own, or
 -- the least one if that is greater.
-pub record Proceeds (reported : List ℕ) (least : ℕ) (Own : Run) (status : ℕ) (before now : Streams) : Type 0 where
+pub record Proceeds (reported : Text) (least : ℕ) (Own : Run) (status : ℕ) (before now : Streams) : Type 0 where
   pub err : SinkState
   pub hands_on : HandsOn before.err reported err
   pub own : ℕ
@@ -23,23 +24,23 @@ pub record Proceeds (reported : List ℕ) (least : ℕ) (Own : Run) (status : �
   pub status_is : status ≡ max own least
 
 -- The error output failed at what is reported, and nothing else was done.
-pub record FailsAtReport (reported : List ℕ) (status : ℕ) (before now : Streams) : Type 0 where
+pub record FailsAtReport (reported : Text) (status : ℕ) (before now : Streams) : Type 0 where
   pub status_is : status ≡ 3
   pub breaks_off : BreaksOff before.err reported now.err
   pub unread : now.input ≡ before.input
   pub untouched : now.out ≡ before.out
 
 -- what is reported is written first, and the run follows
-abbrev pub RunsAfter : (reported : List ℕ) → (least : ℕ) → Run → Run
+abbrev pub RunsAfter : (reported : Text) → (least : ℕ) → Run → Run
 RunsAfter reported least Own = either (Proceeds reported least Own) (FailsAtReport reported)
 
 -- a run after these notes, or the run alone if there are none
-abbrev pub RunsNoted : (notes : List ℕ) → Run → Run
+abbrev pub RunsNoted : (notes : Text) → Run → Run
 RunsNoted notes Own = if_so (is_empty notes) Own (RunsAfter notes 0 Own)
 
 -- What can't be read is reported, what there is to tell about the rest is told, and the line is run over the rest.
 pub record TellsSome (may : MayAnswer) (line : Line) (some : ReadSome) (status : ℕ) (before now : Streams) : Type 0 where
-  pub notes : List ℕ
+  pub notes : Text
   pub are_notes : AreNotesOf may line some.files.items notes
   pub runs : RunsAfter some.report.lines.items some.report.least (RunsNoted notes (RunsFinding may line some.files.items some.index)) status before now
 
@@ -54,7 +55,7 @@ abbrev pub RunsSome : MayAnswer → Line → Run
 RunsSome may line = either (RunsOverSome may line) IsRefusedToRead
 
 -- the lines on the files of the folders go to the output, with status 0
-abbrev pub DeliversLines : List ℕ → Run
+abbrev pub DeliversLines : Text → Run
 DeliversLines lines own before now = Delivers (record { output = lines; messages = []; status = 0 }) own (outputs before) (outputs now)
 
 -- The folders that the line asks for were visited, and their files are reported.

@@ -1,5 +1,6 @@
 -- Which request names the standard input as a file, and what is reported if it can't be read whole.
-use Rattle.std.specs.Prelude.{ℕ, Bool, List, Option, Some, None, if◌then◌else◌, map}
+use Rattle.std.specs.Prelude.{ℕ, Bool, Option, Some, None, if◌then◌else◌, map}
+use Rattle.text_bytes.specs.Text.{Text}
 use Rattle.text_tables.specs.Texts.{is_among}
 use Rattle.engine_ends.specs.Delivery.{ReportsFailure, out_of_memory}
 use Rattle.engine_ends.specs.Sinks.{SinkState}
@@ -15,11 +16,11 @@ abbrev pub names_input : Line → Bool
 names_input line = is_among (map (λ f. f.now) line.files.items) line.input_name.now
 
 -- the name of the standard input as a file, if the line names it as one
-abbrev pub input_of : Line → Option (List ℕ)
+abbrev pub input_of : Line → Option Text
 input_of line = if names_input line then Some line.input_name.now else None
 
 -- the name of the standard input as a file, if the request names it as one
-abbrev pub input_named : Request → Option (List ℕ)
+abbrev pub input_named : Request → Option Text
 input_named (Run line) = input_of line
 input_named (Files line) = None
 input_named (Compare old new) = None

@@ -1,5 +1,6 @@
 -- What a line asks for, as it comes from the disk, and what is reported if it can't be read.
 use Rattle.std.specs.Prelude.{◌≡◌, ℕ, ◌⊎◌, List, Option}
+use Rattle.text_bytes.specs.Text.{Text}
 use Rattle.text_bytes.specs.declared.source_file.SourceFile.{SourceFile}
 use Rattle.engine_ends.specs.declared.line.Line.{Line}
 use Rattle.engine_ends.specs.Delivery.{IsOutOfMemory}
@@ -14,20 +15,20 @@ use Rattle.devdry.specs.Ran.{MayAnswer}
 use Rattle.devdry.specs.Reporting.{ReportsReadFault}
 
 -- the files and the bytes of the index are those that the line asks for
-pub record AreReadFor (may : MayAnswer) (line : Line) (files : List SourceFile) (index : Option (List ℕ)) : Type 0 where
+pub record AreReadFor (may : MayAnswer) (line : Line) (files : List SourceFile) (index : Option Text) : Type 0 where
   pub wanted : Wanted
   pub wants : Wants line wanted
   pub are_files : AreWanted may wanted files
   pub is_index : IsIndexWanted may wanted index
 
 -- the path is that of the index, which the disk may say that it can't read; all files were read before it
-pub record IsFaultyLast (may : MayAnswer) (w : Wanted) (path : List ℕ) : Type 0 where
+pub record IsFaultyLast (may : MayAnswer) (w : Wanted) (path : Text) : Type 0 where
   pub files : List SourceFile
   pub were_read : AreWanted may w files
   pub faulty : IsFaultyIndex may w path
 
 -- the first of what is wanted that can't be read: one of the files and folders, or, after all of them, the index
-abbrev pub IsFaultyRead : MayAnswer → Wanted → List ℕ → Type 0
+abbrev pub IsFaultyRead : MayAnswer → Wanted → Text → Type 0
 IsFaultyRead may w path = IsFaultyWanted may w path ⊎ IsFaultyLast may w path
 
 -- the fault is about something that the line asks for, or memory ran out

@@ -1,5 +1,6 @@
 -- What is reported for words and files that can't be used, by the status.
-use Rattle.std.specs.Prelude.{◌≡◌, ℕ, List, [], ◌∷◌, ◌++◌, codes, string_bytes}
+use Rattle.std.specs.Prelude.{◌≡◌, ℕ, [], ◌∷◌, ◌++◌, codes, string_bytes}
+use Rattle.text_bytes.specs.Text.{Text}
 use Rattle.text_bytes.specs.Escapes.{escape_text}
 use Rattle.text_bytes.specs.Names.{newline}
 use Rattle.engine_ends.specs.declared.line.LineFault.{LineFault}
@@ -13,11 +14,11 @@ use Rattle.devdry_options.specs.declared.files.OptionsFault.{OptionsFault}
 use Rattle.devdry_options.specs.declared.files.OptionsFault.TheVariants as options
 
 -- the line on a file or a folder that could not be read, with its path escaped
-abbrev pub cannot_read : List ℕ → List ℕ
+abbrev pub cannot_read : Text → Text
 cannot_read path = codes "devdry: cannot read " ++ escape_text path ++ newline ∷ []
 
 -- what is reported if an argument is not UTF-8
-abbrev pub not_text : List ℕ
+abbrev pub not_text : Text
 not_text = codes "error: an argument is not UTF-8\n\nFor more information, try '--help'.\n"
 
 -- Words are not a line: help goes to the output with status 0; what is wrong goes to the error output with status 2,

@@ -1,5 +1,6 @@
 -- What a run of the program does with its words, with a disk that may give these answers.
 use Rattle.std.specs.Prelude.{◌≡◌, ◌&&◌, ℕ, Bool, List, [], Option, codes, true, false}
+use Rattle.text_bytes.specs.Text.{Text}
 use Rattle.clap.specs.Words.{fault_of, subcommand_of}
 use Rattle.text_bytes.specs.declared.source_file.SourceFile.{SourceFile}
 use Rattle.engine_ends.specs.Readers.{is_for_people}
@@ -35,15 +36,15 @@ use Rattle.devdry.specs.Terminals.{shown_request}
 use Rattle.devdry.specs.declared.terminals.Terminals.{Terminals}
 
 -- What there is to tell about these files is told, and the line is run over them, the index and the input.
-pub record RunsRead (may : MayAnswer) (line : Line) (files : List SourceFile) (index : Option (List ℕ)) (status : ℕ) (before now : Streams) : Type 0 where
-  pub notes : List ℕ
+pub record RunsRead (may : MayAnswer) (line : Line) (files : List SourceFile) (index : Option Text) (status : ℕ) (before now : Streams) : Type 0 where
+  pub notes : Text
   pub are_notes : AreNotesOf may line files notes
   pub over : RunsNoted notes (RunsFinding may line files index) status before now
 
 -- What the line asks for was read, and the line is run over that and the input.
 pub record RunsOverFiles (may : MayAnswer) (line : Line) (status : ℕ) (before now : Streams) : Type 0 where
   pub files : List SourceFile
-  pub index : Option (List ℕ)
+  pub index : Option Text
   pub are_read : AreReadFor may line files index
   pub runs : RunsRead may line files index status before now
 
@@ -81,7 +82,7 @@ takes_blocks (asked.Files line) = false
 takes_blocks (asked.Compare old new) = true
 
 -- what is reported before event blocks are read from a terminal
-abbrev pub waiting : List ℕ
+abbrev pub waiting : Text
 waiting = codes "devdry: waiting for event blocks, each ended by an empty line; devdry-capture DEVICE prints them\n"
 
 -- what a request does, given whether the input is a terminal: the line on waiting comes first if it is and blocks are read from it
@@ -110,8 +111,8 @@ abbrev pub RunsKnowing : (from_terminal : Bool) → MayAnswer → Request → Ru
 RunsKnowing from_terminal may named = either (RunsOverAccounts from_terminal may named) (FailsAt (IsFaultOfAccounts may named))
 
 -- The input was read whole, and the request is run with a file of this name that has its bytes.
-pub record RunsOverInput (from_terminal : Bool) (may : MayAnswer) (name : List ℕ) (request : Request) (status : ℕ) (before now : Streams) : Type 0 where
-  pub bytes : List ℕ
+pub record RunsOverInput (from_terminal : Bool) (may : MayAnswer) (name : Text) (request : Request) (status : ℕ) (before now : Streams) : Type 0 where
+  pub bytes : Text
   pub input : SourceState
   pub reads : ReadsWhole before.input bytes input
   pub runs : RunsKnowing from_terminal (MayBeside may name bytes) request status (record { input = input; out = before.out; err = before.err }) now
@@ -124,7 +125,7 @@ pub record FailsAtInput (status : ℕ) (before now : Streams) : Type 0 where
   pub untouched : now.out ≡ before.out
 
 -- what a request does that names the standard input as the file of this name
-abbrev pub RunsWithInput : (from_terminal : Bool) → MayAnswer → (name : List ℕ) → Request → Run
+abbrev pub RunsWithInput : (from_terminal : Bool) → MayAnswer → (name : Text) → Request → Run
 RunsWithInput from_terminal may name request = either (RunsOverInput from_terminal may name request) FailsAtInput
 
 -- what a request does, given whether the input is a terminal: first the input is read if it is a file of the request
@@ -133,35 +134,35 @@ RunsPiped from_terminal may request =
     if_none (input_named request) (RunsKnowing from_terminal may request) (λ name. RunsWithInput from_terminal may name request)
 
 -- The words ask for something, which is done as terminals show it.
-pub record RunsWords (terminals : Terminals) (may : MayAnswer) (words : List (List ℕ)) (status : ℕ) (before now : Streams) : Type 0 where
+pub record RunsWords (terminals : Terminals) (may : MayAnswer) (words : List Text) (status : ℕ) (before now : Streams) : Type 0 where
   pub request : Request
   pub is_request : IsRequestOf (subcommand_of devdry words) request
   pub faultless : fault_of devdry words ≡ []
   pub runs : RunsPiped terminals.input may (shown_request terminals.colors request) status before now
 
 -- The words ask for nothing that is run, and that is reported; no input is read.
-pub record RefusesWords (words : List (List ℕ)) (status : ℕ) (before now : Streams) : Type 0 where
+pub record RefusesWords (words : List Text) (status : ℕ) (before now : Streams) : Type 0 where
   pub fault : LineFault
   pub answers : AnswersWords (fault_of devdry words) (subcommand_of devdry words) fault
   pub reports : ReportsLineFault fault status (outputs before) (outputs now)
   pub unread : now.input ≡ before.input
 
 -- what words do by themselves, given which streams are terminals
-abbrev pub RunsAlone : Terminals → MayAnswer → List (List ℕ) → Run
+abbrev pub RunsAlone : Terminals → MayAnswer → List Text → Run
 RunsAlone terminals may words = either (RunsWords terminals may words) (RefusesWords words)
 
 -- The file of options at the path was read, and the words do what they do with those of the file.
-pub record RunsByFile (terminals : Terminals) (may : MayAnswer) (path : List ℕ) (words : List (List ℕ)) (status : ℕ) (before now : Streams) : Type 0 where
-  pub bytes : List ℕ
+pub record RunsByFile (terminals : Terminals) (may : MayAnswer) (path : Text) (words : List Text) (status : ℕ) (before now : Streams) : Type 0 where
+  pub bytes : Text
   pub is_content : may (Content path bytes)
   pub does : DoesByFile (λ added. RunsAlone terminals may (with_options added words)) path bytes status before now
 
 -- what words do that name a file of options at the path
-abbrev pub RunsWithFile : Terminals → MayAnswer → (path : List ℕ) → List (List ℕ) → Run
+abbrev pub RunsWithFile : Terminals → MayAnswer → (path : Text) → List Text → Run
 RunsWithFile terminals may path words = either (RunsByFile terminals may path words) (FailsAt (IsFaultAt may path))
 
 -- what words do, given which streams are terminals: by themselves, or with those of the file of options that they name;
 -- memory may run out in place of that
-abbrev pub Runs : Terminals → MayAnswer → List (List ℕ) → Run
+abbrev pub Runs : Terminals → MayAnswer → List Text → Run
 Runs terminals may words =
     either (if_none (options_in words) (RunsAlone terminals may words) (λ path. RunsWithFile terminals may path words)) IsRefusedToRead

@@ -1,5 +1,5 @@
 -- The section on each remark, by the constants that have the texts.
-use Rattle.std.specs.Prelude.{ℕ, List}
+use Rattle.text_bytes.specs.Text.{Text}
 use Rattle.file_messages.specs.declared.message.MessageKind.{MessageKind}
 use Rattle.file_messages.specs.declared.message.MessageKind.TheVariants.{PropertyWithoutMatch, MatchWithoutProperty, UnindentedLine, NoEquals}
 use Rattle.file_messages.specs.declared.message.MessageKind.TheVariants.{EmptyKey, PatternNotSupported}
@@ -37,7 +37,7 @@ use Rattle.devdry_explanations.specs.declared.udev.TheConstants.{S5, S6, V13, V1
 use Rattle.devdry_explanations.specs.declared.values.TheConstants.{W15, W16, W17, W18, W19, W22, W25}
 
 -- the section on a kind of message
-abbrev pub section_of_kind : MessageKind → List ℕ
+abbrev pub section_of_kind : MessageKind → Text
 section_of_kind PropertyWithoutMatch = H1.now
 section_of_kind MatchWithoutProperty = H2.now
 section_of_kind UnindentedLine = H3.now
@@ -78,7 +78,7 @@ section_of_kind LeadingComma = S5.now
 section_of_kind BlankBeforeComma = S6.now
 
 -- the section on a lint
-abbrev pub section_of_lint : Lint → List ℕ
+abbrev pub section_of_lint : Lint → Text
 section_of_lint ModeNotOctal = W1.now
 section_of_lint SignOfShell = W2.now
 section_of_lint RelativeProgram = W3.now
@@ -108,7 +108,7 @@ section_of_lint LinkOfNet = W26.now
 section_of_lint TagTooLate = W27.now
 
 -- the section on a lint of a database
-abbrev pub section_of_database_lint : DatabaseLint → List ℕ
+abbrev pub section_of_database_lint : DatabaseLint → Text
 section_of_database_lint DigitCase = D1.now
 section_of_database_lint NoModalias = D2.now
 section_of_database_lint EndMissing = D3.now
@@ -124,7 +124,7 @@ section_of_database_lint OpenSet = D12.now
 section_of_database_lint WrongValue = D13.now
 
 -- the section on a fault of a `.link` file
-abbrev pub section_of_link_fault : LinkFault → List ℕ
+abbrev pub section_of_link_fault : LinkFault → Text
 section_of_link_fault link.UnknownSection = L1.now
 section_of_link_fault link.UnknownKey = L2.now
 section_of_link_fault link.BadLine = L3.now
@@ -132,7 +132,7 @@ section_of_link_fault link.BadValue = L4.now
 section_of_link_fault link.NoInterface = L5.now
 
 -- the section on a remark
-abbrev pub section_of : Remark → List ℕ
+abbrev pub section_of : Remark → Text
 section_of (about.Message of_it) = section_of_kind of_it
 section_of (about.Lint of_it) = section_of_lint of_it
 section_of (about.DatabaseLint of_it) = section_of_database_lint of_it

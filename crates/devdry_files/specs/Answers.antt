@@ -1,5 +1,6 @@
 -- What a disk may answer.
-use Rattle.std.specs.Prelude.{ℕ, List}
+use Rattle.std.specs.Prelude.{List}
+use Rattle.text_bytes.specs.Text.{Text}
 use Rattle.devdry_files.specs.declared.disk.Entry.{Entry}
 use Rattle.devdry_files.specs.declared.disk.DiskFault.{DiskFault}
 use Rattle.devdry_files.specs.declared.look.Look.{Look}
@@ -10,11 +11,11 @@ use Rattle.devdry_files.specs.declared.step.Step.{Step}
 -- or why they can't be given; the same if it is the file with this identity; what is there, with symlinks followed;
 -- and what is there, with no symlink followed at its end.
 pub data Answer : Type 0 where
-  Listing : List ℕ → List Entry → Answer
-  NoListing : List ℕ → DiskFault → Answer
-  Content : List ℕ → List ℕ → Answer
-  NoContent : List ℕ → DiskFault → Answer
-  OwnContent : List ℕ → Identity → List ℕ → Answer
-  NoOwnContent : List ℕ → Identity → DiskFault → Answer
-  Looked : List ℕ → Look → Answer
-  Stepped : List ℕ → Step → Answer
+  Listing : Text → List Entry → Answer
+  NoListing : Text → DiskFault → Answer
+  Content : Text → Text → Answer
+  NoContent : Text → DiskFault → Answer
+  OwnContent : Text → Identity → Text → Answer
+  NoOwnContent : Text → Identity → DiskFault → Answer
+  Looked : Text → Look → Answer
+  Stepped : Text → Step → Answer

@@ -8,6 +8,7 @@ use Rattle.std.specs.Iterator.{YieldsThen}
 use Rattle.std.specs.declared.io.Error.{Error}
 use Rattle.std.specs.declared.io.ErrorKind.{ErrorKind}
 use Rattle.std.specs.declared.io.ErrorKind.TheVariants as kind
+use Rattle.text_bytes.specs.Text.{Text}
 use Rattle.devdry_files.specs.declared.disk.DiskFault.{DiskFault}
 use Rattle.devdry_files.specs.declared.disk.DiskFault.TheVariants.{Absent, Unreadable, NotUtf8, OutOfMemory}
 use Rattle.devdry_files.specs.declared.look.Look.{Look}
@@ -52,12 +53,12 @@ is_opened look.File = true
 is_opened _ = false
 
 -- a path that ends like the names of rules or of database files
-abbrev pub is_named_as_read : List ℕ → Bool
+abbrev pub is_named_as_read : Text → Bool
 is_named_as_read path = ends_with nat_eq path (suffix_of Rules) || ends_with nat_eq path (suffix_of Hwdb)
 
 -- whether what a look shows at a path is not opened: what is neither a folder nor a file, such as a FIFO, which would be waited for, at
 -- such a name
-abbrev pub is_refused : Look → List ℕ → Bool
+abbrev pub is_refused : Look → Text → Bool
 is_refused look.Other path = is_named_as_read path
 is_refused _ path = false
 

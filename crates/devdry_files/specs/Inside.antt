@@ -1,6 +1,7 @@
 -- What a disk answers about the paths inside a root: what it says of the places that they lead to there.
-use Rattle.std.specs.Prelude.{◌≡◌, ◌++◌, ◌∷◌, ◌⊎◌, ◌==◌, ◌&&◌, ◌≢◌, ℕ, Bool, true, false, List, [], string_bytes}
+use Rattle.std.specs.Prelude.{◌≡◌, ◌++◌, ◌∷◌, ◌⊎◌, ◌==◌, ◌&&◌, ◌≢◌, Bool, true, false, List, [], string_bytes}
 use Rattle.std.specs.List.{AllZip, list_all}
+use Rattle.text_bytes.specs.Text.{Text}
 use Rattle.text_bytes.specs.Names.{slash}
 use Rattle.devdry_files.specs.Answers.{Answer}
 use Rattle.devdry_files.specs.Answers.Answer.{Content, Listing, Looked, NoContent, NoListing, NoOwnContent, OwnContent, Stepped}
@@ -17,7 +18,7 @@ use Rattle.devdry_files.specs.declared.step.Step.{Step}
 use Rattle.devdry_files.specs.declared.step.Step.TheVariants as step
 
 -- the root of the running system: it is empty, or only slashes
-abbrev pub is_own_root : List ℕ → Bool
+abbrev pub is_own_root : Text → Bool
 is_own_root root = list_all (λ b. b == slash) root
 
 -- whether a path leads to a folder
@@ -26,7 +27,7 @@ is_folder end.Folder = true
 is_folder _ = false
 
 -- the same entry, which is a folder if its name in a place leads to one
-pub record IsEntryIn (may : Answer → Type 0) (root : List ℕ) (way : Way) (own entry : Entry) : Type 0 where
+pub record IsEntryIn (may : Answer → Type 0) (root : Text) (way : Way) (own entry : Entry) : Type 0 where
   pub it : End
   pub at : Way
   pub named_so : string_bytes entry.name ≡ string_bytes own.name
@@ -34,7 +35,7 @@ pub record IsEntryIn (may : Answer → Type 0) (root : List ℕ) (way : Way) (ow
   pub is_one : entry.is_folder ≡ is_folder it
 
 -- the entries of the folder that a path leads to
-pub record ListsIn (may : Answer → Type 0) (root path : List ℕ) (entries : List Entry) : Type 0 where
+pub record ListsIn (may : Answer → Type 0) (root path : Text) (entries : List Entry) : Type 0 where
   pub way : Way
   pub comes : Comes may root path end.Folder way
   pub own : List Entry
@@ -47,18 +48,18 @@ unreadable (end.NoWay look.Absent) = Absent
 unreadable _ = Unreadable
 
 -- why what a path leads to can't be listed
-abbrev pub ListsNotAt : (Answer → Type 0) → List ℕ → End → DiskFault → Type 0
+abbrev pub ListsNotAt : (Answer → Type 0) → Text → End → DiskFault → Type 0
 ListsNotAt may place end.Folder fault = may (NoListing place fault)
 ListsNotAt may place it fault = fault ≡ unreadable it
 
 -- what a path leads to has these bytes
-abbrev pub ReadsAt : (Answer → Type 0) → List ℕ → End → List ℕ → Type 0
+abbrev pub ReadsAt : (Answer → Type 0) → Text → End → Text → Type 0
 ReadsAt may place (end.File identity) bytes = may (OwnContent place identity bytes)
 ReadsAt may place end.Null bytes = bytes ≡ []
 ReadsAt may place _ bytes = ⊥
 
 -- why what a path leads to can't be read
-abbrev pub ReadsNotAt : (Answer → Type 0) → List ℕ → End → DiskFault → Type 0
+abbrev pub ReadsNotAt : (Answer → Type 0) → Text → End → DiskFault → Type 0
 ReadsNotAt may place (end.File identity) fault = may (NoOwnContent place identity fault)
 ReadsNotAt may place end.Null fault = ⊥
 ReadsNotAt may place it fault = fault ≡ unreadable it
@@ -73,47 +74,47 @@ is_file_with identity (end.File own) = same_identity own identity
 is_file_with identity _ = false
 
 -- why what a path leads to can't be read as the file with an identity, given whether it is that
-abbrev pub ReadsNotOwn : Bool → (Answer → Type 0) → List ℕ → Identity → DiskFault → Type 0
+abbrev pub ReadsNotOwn : Bool → (Answer → Type 0) → Text → Identity → DiskFault → Type 0
 ReadsNotOwn true may place identity fault = may (NoOwnContent place identity fault)
 ReadsNotOwn false may place identity fault = fault ≡ Unreadable
 
 -- what a look at what a path leads to shows
-abbrev pub LooksAt : (Answer → Type 0) → List ℕ → End → Look → Type 0
+abbrev pub LooksAt : (Answer → Type 0) → Text → End → Look → Type 0
 LooksAt may place end.Null shown = shown ≡ look.File
 LooksAt may place end.OddLink shown = shown ≡ look.Absent
 LooksAt may place (end.NoWay other) shown = shown ≡ other
 LooksAt may place _ shown = may (Looked place shown)
 
 -- what a step shows at a name in a folder: one that leads to the folder or above it leads to a folder
-abbrev pub StepsTo : Bool → Bool → (Answer → Type 0) → List ℕ → Step → Type 0
+abbrev pub StepsTo : Bool → Bool → (Answer → Type 0) → Text → Step → Type 0
 StepsTo false false may path shown = may (Stepped path shown)
 StepsTo _ _ may path shown = shown ≡ step.Folder
 
 -- what a step shows at a name in what a way leads to
-abbrev pub StepsAt : (Answer → Type 0) → List ℕ → Way → List ℕ → End → Step → Type 0
+abbrev pub StepsAt : (Answer → Type 0) → Text → Way → Text → End → Step → Type 0
 StepsAt may root way name end.Folder shown = StepsTo (is_here name) (is_up name) may (place_in root (way ++ name ∷ [])) shown
 StepsAt may root way name (end.NoWay other) shown = shown ≡ step.NoWay other
 StepsAt may root way name _ shown = shown ≡ step.NoWay look.Other
 
 -- what a step shows at a name after others from the root
-abbrev pub StepsPast : (Answer → Type 0) → List ℕ → Way → List ℕ → Step → Type 0
+abbrev pub StepsPast : (Answer → Type 0) → Text → Way → Text → Step → Type 0
 StepsPast may root front name shown = (it : End) × (way : Way) × LeadsOn may root [] front it way × StepsAt may root way name it shown
 
 -- what a step shows at the last name of what follows the root
-abbrev pub StepsBelow : (Answer → Type 0) → List ℕ → List ℕ → Step → Type 0
-StepsBelow may root rest shown = (front : Way) × (name : List ℕ) × (names_in rest ≡ front ++ name ∷ []) × StepsPast may root front name shown
+abbrev pub StepsBelow : (Answer → Type 0) → Text → Text → Step → Type 0
+StepsBelow may root rest shown = (front : Way) × (name : Text) × (names_in rest ≡ front ++ name ∷ []) × StepsPast may root front name shown
 
 -- what a step to a path shows: all names but the last are followed
-abbrev pub StepsIn : (Answer → Type 0) → List ℕ → List ℕ → Step → Type 0
-StepsIn may root path shown = ((rest : List ℕ) × (path ≡ root ++ rest) × StepsBelow may root rest shown)
-    ⊎ (((rest : List ℕ) → path ≢ root ++ rest) × (shown ≡ step.NoWay look.Absent))
+abbrev pub StepsIn : (Answer → Type 0) → Text → Text → Step → Type 0
+StepsIn may root path shown = ((rest : Text) × (path ≡ root ++ rest) × StepsBelow may root rest shown)
+    ⊎ (((rest : Text) → path ≢ root ++ rest) × (shown ≡ step.NoWay look.Absent))
 
 -- this holds for what a path leads to inside a root, and for its place
-abbrev pub LedTo : (Answer → Type 0) → List ℕ → List ℕ → (End → List ℕ → Type 0) → Type 0
+abbrev pub LedTo : (Answer → Type 0) → Text → Text → (End → Text → Type 0) → Type 0
 LedTo may root path Holds = (it : End) × (way : Way) × Comes may root path it way × Holds it (place_in root way)
 
 -- the answers that a disk may give about paths inside a root, given whether that is the root of the running system: then it is asked as it is
-abbrev pub MayBy : Bool → (Answer → Type 0) → List ℕ → Answer → Type 0
+abbrev pub MayBy : Bool → (Answer → Type 0) → Text → Answer → Type 0
 MayBy true may root answer = may answer
 MayBy false may root (Listing path entries) = ListsIn may root path entries
 MayBy false may root (NoListing path fault) = (fault ≡ OutOfMemory) ⊎ LedTo may root path (λ it place. ListsNotAt may place it fault)
@@ -127,5 +128,5 @@ MayBy false may root (Looked path shown) = LedTo may root path (λ it place. Loo
 MayBy false may root (Stepped path shown) = StepsIn may root path shown
 
 -- the answers that a disk may give about paths inside a root
-abbrev pub MayInside : (Answer → Type 0) → List ℕ → Answer → Type 0
+abbrev pub MayInside : (Answer → Type 0) → Text → Answer → Type 0
 MayInside may root answer = MayBy (is_own_root root) may root answer

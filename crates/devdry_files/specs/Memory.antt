@@ -1,7 +1,8 @@
 -- What a disk over memory answers.
-use Rattle.std.specs.Prelude.{◌≡◌, ℕ, Bool, List, Option, Some, None, find, map, string_bytes}
+use Rattle.std.specs.Prelude.{◌≡◌, Bool, List, Option, Some, None, find, map, string_bytes}
 use Rattle.std.specs.Option.{option_map}
 use Rattle.std.specs.Str.{bytes_eq}
+use Rattle.text_bytes.specs.Text.{Text}
 use Rattle.devdry_files.specs.Answers.{Answer}
 use Rattle.devdry_files.specs.Answers.Answer.{Content, Listing, Looked, NoContent, NoListing, NoOwnContent, OwnContent, Stepped}
 use Rattle.devdry_files.specs.declared.disk.DiskFault.{DiskFault}
@@ -19,7 +20,7 @@ use Rattle.devdry_files.specs.declared.memory_disk.DiskNode.TheVariants as disk_
 
 -- an entry, with its name as bytes
 pub record Seen : Type 0 where
-  pub name : List ℕ
+  pub name : Text
   pub is_folder : Bool
 
 -- what a contract sees of an entry
@@ -31,7 +32,7 @@ abbrev pub seen_in_memory : MemoryEntry → Seen
 seen_in_memory e = record { name = e.name.now; is_folder = e.is_folder }
 
 -- what is at the path: at the first place that has it
-abbrev pub node_at : MemoryDisk → List ℕ → Option DiskNode
+abbrev pub node_at : MemoryDisk → Text → Option DiskNode
 node_at disk path = option_map (λ p. p.disk_node) (find (λ p. bytes_eq p.path.now path) disk.places.now)
 
 -- what is there is listed like this
@@ -43,7 +44,7 @@ ListsAs (Some (disk_node.Link target)) entries = ⊥
 ListsAs None entries = ⊥
 
 -- what is there is read like this
-abbrev pub ReadsAs : Option DiskNode → List ℕ → Type 0
+abbrev pub ReadsAs : Option DiskNode → Text → Type 0
 ReadsAs (Some (disk_node.Folder own)) bytes = ⊥
 ReadsAs (Some (disk_node.File own)) bytes = bytes ≡ own.now
 ReadsAs (Some disk_node.Unreadable) bytes = ⊥
@@ -79,7 +80,7 @@ abbrev pub no_identity : Identity
 no_identity = record { device = 0; number = 0 }
 
 -- a symlink with this target
-abbrev pub LinksTo : List ℕ → Step → Type 0
+abbrev pub LinksTo : Text → Step → Type 0
 LinksTo target (step.Link own) = string_bytes own ≡ target
 LinksTo target _ = ⊥
 

@@ -2,6 +2,7 @@
 use Rattle.std.specs.Prelude.{◌≡◌, ◌++◌, ℕ, List, [], ◌∷◌, if◌then◌else◌, map, nat_eq, string_bytes}
 use Rattle.std.specs.List.{ends_with, flat_map}
 use Rattle.std.specs.Option.{option_copied}
+use Rattle.text_bytes.specs.Text.{Text}
 use Rattle.engine_ends.specs.Folders.{folder_path}
 use Rattle.engine_ends.specs.Kinds.{kind_named, kinds_read, reads_folders_of}
 use Rattle.engine_ends.specs.declared.line.Line.{Line}
@@ -16,10 +17,10 @@ use Rattle.devdry_files.specs.declared.places.Wanted.{Wanted}
 pub record Place : Type 0 where
   pub kind : FileKind
   pub rank : ℕ
-  pub path : List ℕ
+  pub path : Text
 
 -- the place of this kind and rank: the folder's path after the text that comes before it
-abbrev pub folder_place : FileKind → ℕ → List ℕ → Place
+abbrev pub folder_place : FileKind → ℕ → Text → Place
 folder_place kind rank root = record { kind = kind; rank = rank; path = root ++ folder_path kind rank }
 
 -- what a contract sees of a folder
@@ -27,7 +28,7 @@ abbrev pub place_of : Folder → Place
 place_of f = record { kind = f.kind; rank = f.rank; path = string_bytes f.path }
 
 -- the folders of a kind by rank, each after the text that comes before it
-abbrev pub folders_of : FileKind → List ℕ → List Place
+abbrev pub folders_of : FileKind → Text → List Place
 folders_of Hwdb root = folder_place Hwdb 0 root ∷ folder_place Hwdb 1 root ∷ []
 folders_of Rules root = folder_place Rules 0 root ∷ folder_place Rules 1 root ∷ folder_place Rules 2 root ∷ folder_place Rules 3 root ∷ []
 
@@ -40,11 +41,11 @@ abbrev pub folders_for : Line → List Place
 folders_for line = flat_map (folders_of_kind line) (kinds_read line.verb)
 
 -- the name of a file at a path: what follows the last slash
-abbrev pub name_at : List ℕ → List ℕ
+abbrev pub name_at : Text → Text
 name_at path = last_component path
 
 -- what a file that is added to those of the folders holds, by how its path ends: a database, or else rules
-abbrev pub kind_added : List ℕ → FileKind
+abbrev pub kind_added : Text → FileKind
 kind_added path = if ends_with nat_eq path (suffix_of Hwdb) then Hwdb else Rules
 
 -- what the line asks for: the files that it names, in their order, what they hold, the files that it adds, in their order, the folders, their

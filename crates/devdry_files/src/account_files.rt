@@ -1,5 +1,6 @@
 //! Reads the files of users and groups that a line names.
-ghost use Rattle.std.specs.Prelude.{◌≡◌, ◌++◌, ℕ, IfErr, IfOk, List, false, string_bytes, true};
+ghost use Rattle.std.specs.Prelude.{◌≡◌, ◌++◌, IfErr, IfOk, false, string_bytes, true};
+ghost use Rattle.text_bytes.specs.Text.{Text};
 ghost use Rattle.devdry_files.specs.AccountFiles.{AreAccountsRead, IsAccountRead, IsFaultyAccount, IsFaultyAccounts, IsFileRead, account_place};
 ghost use Rattle.devdry_files.specs.Faults.{HasPath, IsUnread, IsUnreadable};
 ghost use Rattle.devdry_files.specs.Inside.{MayInside};
@@ -55,7 +56,7 @@ fn read_named<'a, D: Disk>(
     mut file: AccountFile<'a>,
 ) -> Result<Option<AccountFile<'a>>, ReadFault>
     requires { file.of_root ≡ false }
-    ensures file { IfOk result (λ read. (root : List ℕ) → IsFileRead (D.may_answer disk.now) root file.entry read) }
+    ensures file { IfOk result (λ read. (root : Text) → IsFileRead (D.may_answer disk.now) root file.entry read) }
     ensures fault { IfErr result (HasPath (λ path. (path ≡ file.entry.path.now) × IsUnread (D.may_answer disk.now) path)) }
 {
     let path = String::from_str(alloc, file.path)?;

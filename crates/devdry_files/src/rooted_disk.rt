@@ -1,6 +1,7 @@
 //! A disk inside a root: each path is followed below the root, and nothing outside is seen.
-ghost use Rattle.std.specs.Prelude.{◌≡◌, ◌≢◌, ◌++◌, ◌∷◌, [], ℕ, List, IfErr, IfOk, MatchOption, false, map, string_bytes};
+ghost use Rattle.std.specs.Prelude.{◌≡◌, ◌≢◌, ◌++◌, ◌∷◌, [], IfErr, IfOk, MatchOption, false, map, string_bytes};
 ghost use Rattle.std.specs.List.{AllZip};
+ghost use Rattle.text_bytes.specs.Text.{Text};
 ghost use Rattle.devdry_files.specs.Answers.Answer.{Content, NoContent, NoListing, NoOwnContent, OwnContent, Looked, Stepped};
 ghost use Rattle.devdry_files.specs.Inside.{IsEntryIn, ListsIn, MayBy, MayInside, StepsAt, StepsBelow, StepsPast, is_file_with, is_folder};
 ghost use Rattle.devdry_files.specs.Inside.{is_own_root, unreadable};
@@ -48,7 +49,7 @@ struct Found {
 
 /// What follows the root in a path, if that begins with it.
 fn after_root<'p>(root: &str, path: &'p str) -> Option<&'p str>
-    ensures { MatchOption result ((rest : List ℕ) → path.now ≢ root.now ++ rest) (λ rest. path.now ≡ root.now ++ rest.now) }
+    ensures { MatchOption result ((rest : Text) → path.now ≢ root.now ++ rest) (λ rest. path.now ≡ root.now ++ rest.now) }
 {
     path.strip_prefix(root)
 }

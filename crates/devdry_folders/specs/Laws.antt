@@ -3,6 +3,7 @@ use Rattle.std.specs.Prelude.{◌≡◌, ◌≤◌, ◌||◌, ◌&&◌, ◌==◌
 use Rattle.std.specs.Prelude.{is_some, length, not}
 use Rattle.std.specs.List.{list_any}
 use Rattle.std.specs.Option.{option_to_list}
+use Rattle.text_bytes.specs.Text.{Text}
 use Rattle.text_bytes.specs.declared.source_file.FileKind.{FileKind}
 use Rattle.text_bytes.specs.declared.source_file.FileKind.TheVariants.{Hwdb}
 use Rattle.text_bytes.specs.declared.source_file.SourceFile.{SourceFile}
@@ -22,11 +23,11 @@ use Rattle.devdry_folders.specs.declared.sights.Survey.{Survey}
 use Rattle.devdry_folders.specs.declared.sights.Visit.{Visit}
 
 -- each reason, with this target of a link
-abbrev pub all_reasons : (target : List ℕ) → List Reason
+abbrev pub all_reasons : (target : Text) → List Reason
 all_reasons target = Absent ∷ Forbidden ∷ LinkToNothing target ∷ NotFolder ∷ NotRegular ∷ NotUtf8 ∷ Failed ∷ []
 
 -- whether none of these texts is empty, and no two are the same
-abbrev pub differ : List (List ℕ) → Bool
+abbrev pub differ : List Text → Bool
 differ [] = true
 differ (text ∷ texts) = not (is_empty text) && (not (is_among texts text) && differ texts)
 

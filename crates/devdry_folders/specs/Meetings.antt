@@ -1,5 +1,6 @@
 -- What is met at the path of a file, as it comes from the answers that a disk may give.
-use Rattle.std.specs.Prelude.{◌≡◌, ℕ, List, Option, Some, None, codes, string_bytes}
+use Rattle.std.specs.Prelude.{◌≡◌, Option, Some, None, codes, string_bytes}
+use Rattle.text_bytes.specs.Text.{Text}
 use Rattle.devdry_files.specs.Answers.{Answer}
 use Rattle.devdry_files.specs.Answers.Answer.{Content, Looked, NoContent, Stepped}
 use Rattle.devdry_files.specs.declared.disk.DiskFault.TheVariants as disk
@@ -13,18 +14,18 @@ use Rattle.devdry_folders.specs.declared.sights.Met.{Met}
 use Rattle.devdry_folders.specs.declared.sights.Met.TheVariants as met
 
 -- where the symlink that a step shows leads, as it is written, or a question mark if that is not UTF-8
-abbrev pub target_of : Step → Option (List ℕ)
+abbrev pub target_of : Step → Option Text
 target_of (step.Link target) = Some (string_bytes target)
 target_of step.OddLink = Some (codes "?")
 target_of _ = None
 
 -- why nothing is at a path, by the target of the symlink there, if there is one
-abbrev pub absence : Option (List ℕ) → Reason
+abbrev pub absence : Option Text → Reason
 absence None = reasons.Absent
 absence (Some target) = reasons.LinkToNothing target
 
 -- a file at the path is read like this, as the disk may answer
-abbrev pub IsReadSo : (Answer → Type 0) → List ℕ → Met → Type 0
+abbrev pub IsReadSo : (Answer → Type 0) → Text → Met → Type 0
 IsReadSo may path (met.File bytes) = may (Content path bytes)
 IsReadSo may path (met.Unread reasons.Absent) = may (NoContent path disk.Absent)
 IsReadSo may path (met.Unread reasons.Failed) = may (NoContent path disk.Unreadable)
@@ -32,11 +33,11 @@ IsReadSo may path (met.Unread reasons.NotUtf8) = may (NoContent path disk.NotUtf
 IsReadSo may path _ = ⊥
 
 -- nothing is at the path, for the reason that the symlink there gives, if there is one
-abbrev pub IsMissing : (Answer → Type 0) → List ℕ → Met → Type 0
+abbrev pub IsMissing : (Answer → Type 0) → Text → Met → Type 0
 IsMissing may path it = (shown : Step) × may (Stepped path shown) × (it ≡ met.Unread (absence (target_of shown)))
 
 -- What is met at the path, by a look at it: a file is read, a folder is skipped, and all else can't be read.
-abbrev pub IsMetBy : (Answer → Type 0) → List ℕ → Look → Met → Type 0
+abbrev pub IsMetBy : (Answer → Type 0) → Text → Look → Met → Type 0
 IsMetBy may path looks.Absent it = IsMissing may path it
 IsMetBy may path looks.Folder it = it ≡ met.Folder
 IsMetBy may path looks.File it = IsReadSo may path it
@@ -45,7 +46,7 @@ IsMetBy may path looks.Other it = it ≡ met.Unread reasons.NotRegular
 IsMetBy may path looks.Failed it = it ≡ met.Unread reasons.Failed
 
 -- it is met like this by a look that the disk may give
-pub record IsMet (may : Answer → Type 0) (path : List ℕ) (it : Met) : Type 0 where
+pub record IsMet (may : Answer → Type 0) (path : Text) (it : Met) : Type 0 where
   pub look : Look
   pub looked : may (Looked path look)
   pub met_so : IsMetBy may path look it
@@ -56,5 +57,5 @@ as_file met.Folder = met.Unread reasons.NotRegular
 as_file it = it
 
 -- it is met at a path where only a file is taken
-abbrev pub IsFileMet : (Answer → Type 0) → List ℕ → Met → Type 0
+abbrev pub IsFileMet : (Answer → Type 0) → Text → Met → Type 0
 IsFileMet may path it = (found : Met) × IsMet may path found × (it ≡ as_file found)

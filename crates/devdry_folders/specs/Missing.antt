@@ -1,6 +1,7 @@
 -- What is reported where no file was found that a run needs.
-use Rattle.std.specs.Prelude.{◌≡◌, ◌++◌, ◌==◌, ◌&&◌, ◌||◌, ℕ, Bool, List, [], MatchBool, codes, length, not, vec_len}
+use Rattle.std.specs.Prelude.{◌≡◌, ◌++◌, ◌==◌, ◌&&◌, ◌||◌, Bool, List, [], MatchBool, codes, length, not, vec_len}
 use Rattle.std.specs.List.{list_any}
+use Rattle.text_bytes.specs.Text.{Text}
 use Rattle.text_bytes.specs.declared.source_file.FileKind.{FileKind}
 use Rattle.text_bytes.specs.declared.source_file.FileKind.TheVariants.{Hwdb}
 use Rattle.engine_ends.specs.Kinds.{kinds_read, reads_folders_of}
@@ -30,26 +31,26 @@ abbrev pub looks_at_root : Line → Bool
 looks_at_root line = (not (length line.root.now == 0) && has_own_files line) && list_any (reads_folders_of line) (kinds_read line.verb)
 
 -- the line on a root that is no folder, by a look at it
-abbrev pub root_line : List ℕ → Look → List ℕ
+abbrev pub root_line : Text → Look → Text
 root_line root look.Absent = line_on root (codes ": absent")
 root_line root look.File = line_on root (codes ": not a folder")
 root_line root look.Other = line_on root (codes ": not a folder")
 root_line root _ = []
 
 -- the line on the root, by a look that the disk may give
-abbrev pub IsLineByLook : (Answer → Type 0) → List ℕ → List ℕ → Type 0
+abbrev pub IsLineByLook : (Answer → Type 0) → Text → Text → Type 0
 IsLineByLook may root text = (shown : Look) × may (Looked root shown) × (text ≡ root_line root shown)
 
 -- the line on the root of a line, if it is looked at and is no folder
-abbrev pub IsLineOnRoot : (Answer → Type 0) → Line → List ℕ → Type 0
+abbrev pub IsLineOnRoot : (Answer → Type 0) → Line → Text → Type 0
 IsLineOnRoot may line text = MatchBool (looks_at_root line) (IsLineByLook may line.root.now text) (text ≡ [])
 
 -- the lines that say that no file of these kinds was read, and where they were looked for
-abbrev pub IsNothing : (Answer → Type 0) → Line → List FileKind → List Visit → List ℕ → Type 0
+abbrev pub IsNothing : (Answer → Type 0) → Line → List FileKind → List Visit → Text → Type 0
 IsNothing may line kinds visits text =
     (others : List Elsewhere) × AreElsewhere (MayInside may line.root.now) line kinds others × (text ≡ nothing_lines kinds visits others)
 
 -- what is reported if no file of these kinds was read, or if folders are read below a root that is no folder
-abbrev pub AreMissing : (Answer → Type 0) → Line → List FileKind → Survey → List ℕ → Type 0
+abbrev pub AreMissing : (Answer → Type 0) → Line → List FileKind → Survey → Text → Type 0
 AreMissing may line kinds survey text =
     MatchBool (has_needed kinds survey) (IsLineOnRoot may line text) (IsNothing may line kinds survey.visits.items text)

@@ -1,7 +1,8 @@
 -- The outcome of a line whose reading goes on after what can't be read.
-use Rattle.std.specs.Prelude.{◌≡◌, ◌++◌, ◌∷◌, ℕ, Bool, List, [], MatchBool, None, flat_map}
+use Rattle.std.specs.Prelude.{◌≡◌, ◌++◌, ◌∷◌, Bool, List, [], MatchBool, None, flat_map}
 use Rattle.std.specs.List.{list_any}
 use Rattle.std.specs.Option.{option_copied, option_to_list}
+use Rattle.text_bytes.specs.Text.{Text}
 use Rattle.text_bytes.specs.declared.source_file.FileKind.{FileKind}
 use Rattle.text_bytes.specs.declared.source_file.SourceFile.{SourceFile}
 use Rattle.engine_ends.specs.Kinds.{kind_named, kinds_read}
@@ -34,14 +35,14 @@ pub record IsSurveyFor (may : Answer → Type 0) (line : Line) (survey : Survey)
   pub is_index : IsIndexSight may (option_copied line.index) survey.index
 
 -- the lines on all that can't be read, for people or not, those on the index last
-abbrev pub all_unread : (for_people : Bool) → Survey → List ℕ
+abbrev pub all_unread : (for_people : Bool) → Survey → Text
 all_unread for_people survey =
     unread_lines for_people survey.visits.items ++ flat_map (λ s. line_on_met for_people s.path s.met) (option_to_list survey.index)
 
 -- What is reported for a survey before the run: what can't be read, and what was looked at if no file of these kinds was
 -- read; and the least status of the run, which follows from both.
 pub record IsReported (may : Answer → Type 0) (line : Line) (kinds : List FileKind) (survey : Survey) (report : Report) : Type 0 where
-  pub missing : List ℕ
+  pub missing : Text
   pub are_missing : AreMissing may line kinds survey missing
   pub lines : report.lines.items ≡ all_unread (is_for_people line.format) survey ++ missing
   pub least : report.least ≡ least_status (all_unread (is_for_people line.format) survey) missing

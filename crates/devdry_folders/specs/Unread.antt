@@ -1,6 +1,7 @@
 -- What is reported for what can't be read, and the files that were read.
 use Rattle.std.specs.Prelude.{◌++◌, ◌∷◌, ◌==◌, ◌&&◌, ℕ, Bool, true, false, List, [], codes, flat_map, if◌then◌else◌, length, not}
 use Rattle.std.specs.List.{list_any}
+use Rattle.text_bytes.specs.Text.{Text}
 use Rattle.text_bytes.specs.Escapes.{escape_text}
 use Rattle.text_bytes.specs.Names.{newline}
 use Rattle.text_bytes.specs.declared.source_file.FileKind.{FileKind}
@@ -17,38 +18,38 @@ use Rattle.devdry_folders.specs.declared.sights.Spot.TheVariants as spot
 use Rattle.devdry_folders.specs.declared.sights.Visit.{Visit}
 
 -- the line on what can't be read
-abbrev pub unread_line : List ℕ → Reason → List ℕ
+abbrev pub unread_line : Text → Reason → Text
 unread_line path reason = codes "devdry: cannot read " ++ escape_text path ++ codes ": " ++ reason_text reason ++ newline ∷ []
 
 -- the two lines for people on a reason: what is wrong, and what to do about it
-abbrev pub advice_lines : Reason → List ℕ
+abbrev pub advice_lines : Reason → Text
 advice_lines reason = codes "  " ++ wrong_by reason ++ codes "\n  = " ++ advice_on reason ++ newline ∷ []
 
 -- what is said about what can't be read, for people or not
-abbrev pub unread_said : (for_people : Bool) → List ℕ → Reason → List ℕ
+abbrev pub unread_said : (for_people : Bool) → Text → Reason → Text
 unread_said for_people path reason = unread_line path reason ++ (if for_people then advice_lines reason else [])
 
 -- the lines on what is met at a path, if it can't be read
-abbrev pub line_on_met : (for_people : Bool) → List ℕ → Met → List ℕ
+abbrev pub line_on_met : (for_people : Bool) → Text → Met → Text
 line_on_met for_people path (met.Unread reason) = unread_said for_people path reason
 line_on_met for_people path _ = []
 
 -- the lines on what is at a path, if it can't be listed
-abbrev pub line_on_spot : (for_people : Bool) → List ℕ → Spot → List ℕ
+abbrev pub line_on_spot : (for_people : Bool) → Text → Spot → Text
 line_on_spot for_people path (spot.Unread reason) = unread_said for_people path reason
 line_on_spot for_people path _ = []
 
 -- the lines on what was met at the path of a folder: on the folder, and on what is in it
-abbrev pub lines_on_scan : (for_people : Bool) → List ℕ → Scan → List ℕ
+abbrev pub lines_on_scan : (for_people : Bool) → Text → Scan → Text
 lines_on_scan for_people path scan =
     line_on_spot for_people path scan.spot ++ flat_map (λ s. line_on_met for_people s.path s.met) scan.sights.items
 
 -- the lines on a visit
-abbrev pub lines_on_visit : (for_people : Bool) → Visit → List ℕ
+abbrev pub lines_on_visit : (for_people : Bool) → Visit → Text
 lines_on_visit for_people v = lines_on_scan for_people v.path v.scan
 
 -- the lines on all that can't be read, in the order of the visits
-abbrev pub unread_lines : (for_people : Bool) → List Visit → List ℕ
+abbrev pub unread_lines : (for_people : Bool) → List Visit → Text
 unread_lines for_people visits = flat_map (lines_on_visit for_people) visits
 
 -- whether a file was read
@@ -69,7 +70,7 @@ abbrev pub has_files : List FileKind → List Visit → Bool
 has_files kinds visits = list_any (λ v. is_one_of kinds v.kind && has_file v.scan.sights.items) visits
 
 -- the file with a name, if one was met
-abbrev pub file_of_met : FileKind → ℕ → List ℕ → Met → List SourceFile
+abbrev pub file_of_met : FileKind → ℕ → Text → Met → List SourceFile
 file_of_met kind rank name (met.File bytes) = record { kind = kind; rank = rank; name = name; bytes = bytes } ∷ []
 file_of_met kind rank name _ = []
 
@@ -87,5 +88,5 @@ files_of visits = flat_map files_of_visit visits
 
 -- the least status of a run, by the lines on what can't be read and those on where no file was found: 3 if something
 -- can't be read, else 1 if files are missing
-abbrev pub least_status : List ℕ → List ℕ → ℕ
+abbrev pub least_status : Text → Text → ℕ
 least_status unread missing = if not (length unread == 0) then 3 else if length missing == 0 then 0 else 1

@@ -1,10 +1,11 @@
 -- The folders and files that a line asks for, and the outcome of each visit, as it comes from the answers that a disk
 -- may give.
-use Rattle.std.specs.Prelude.{◌≡◌, ◌++◌, ◌∷◌, ◌⊎◌, ℕ, All, true, false, IsPermutation, IsSorted, List, []}
+use Rattle.std.specs.Prelude.{◌≡◌, ◌++◌, ◌∷◌, ◌⊎◌, All, true, false, IsPermutation, IsSorted, List, []}
 use Rattle.std.specs.Prelude.{None, Option, Some, String, if◌then◌else◌, map, nat_eq, string_bytes}
 use Rattle.std.specs.List.{ends_with}
 use Rattle.std.specs.String.{string_cmp}
 use Rattle.std.specs.declared.alloc.Global.{Global}
+use Rattle.text_bytes.specs.Text.{Text}
 use Rattle.text_bytes.specs.Kinds.{suffix_of}
 use Rattle.text_bytes.specs.Names.{slash}
 use Rattle.text_bytes.specs.declared.source_file.FileKind.{FileKind}
@@ -29,48 +30,48 @@ use Rattle.devdry_folders.specs.declared.sights.Spot.TheVariants as spot
 use Rattle.devdry_folders.specs.declared.sights.Visit.{Visit}
 
 -- the path of a name in the folder at a path: one slash is put between them, but none after a slash that ends the folder's path
-abbrev pub below : List ℕ → List ℕ → List ℕ
+abbrev pub below : Text → Text → Text
 below folder name = if ends_with nat_eq folder (slash ∷ []) then folder ++ name else folder ++ slash ∷ name
 
 -- all names in a folder, sorted byte by byte, as the disk may list it
-pub record AreAllNames (may : Answer → Type 0) (folder : List ℕ) (names : List (String Global)) : Type 0 where
+pub record AreAllNames (may : Answer → Type 0) (folder : Text) (names : List (String Global)) : Type 0 where
   pub entries : List Entry
   pub listed : may (Listing folder entries)
   pub once : IsPermutation (map (λ e. e.name) entries) names
   pub rise : IsSorted string_cmp names
 
 -- what is met at a name in a folder of files whose names end in a suffix: a name that does not is not looked at
-pub record IsSightIn (may : Answer → Type 0) (suffix folder : List ℕ) (s : Sight) : Type 0 where
+pub record IsSightIn (may : Answer → Type 0) (suffix folder : Text) (s : Sight) : Type 0 where
   pub path_is : s.path ≡ below folder s.name
   pub of_kind : ends_with nat_eq s.name suffix ≡ true → IsMet may s.path s.met
   pub of_none : ends_with nat_eq s.name suffix ≡ false → s.met ≡ met.OtherName
 
 -- what is met at these names in a folder of files with a suffix, in their order
-pub record AreSightsAt (may : Answer → Type 0) (suffix folder : List ℕ) (names : List (List ℕ)) (sights : List Sight) : Type 0 where
+pub record AreSightsAt (may : Answer → Type 0) (suffix folder : Text) (names : List Text) (sights : List Sight) : Type 0 where
   pub named_so : map (λ s. s.name) sights ≡ names
   pub each : All (IsSightIn may suffix folder) sights
 
 -- what is met in a folder of files with a suffix: one sight for each name, in their order
-pub record AreSightsIn (may : Answer → Type 0) (suffix folder : List ℕ) (sights : List Sight) : Type 0 where
+pub record AreSightsIn (may : Answer → Type 0) (suffix folder : Text) (sights : List Sight) : Type 0 where
   pub names : List (String Global)
   pub are_names : AreAllNames may folder names
   pub are_sights : AreSightsAt may suffix folder (map string_bytes names) sights
 
 -- a folder is not listed for this, as the disk may say: it is gone, can't be listed, or has a name that is not UTF-8
-abbrev pub IsListingFault : (Answer → Type 0) → List ℕ → Spot → Type 0
+abbrev pub IsListingFault : (Answer → Type 0) → Text → Spot → Type 0
 IsListingFault may path spot.Absent = may (NoListing path disk.Absent)
 IsListingFault may path (spot.Unread reasons.Failed) = may (NoListing path disk.Unreadable)
 IsListingFault may path (spot.Unread reasons.NotUtf8) = may (NoListing path disk.NotUtf8)
 IsListingFault may path _ = ⊥
 
 -- the outcome of listing the folder at a path, with files of a suffix: what is met in it, or why it is not listed
-abbrev pub IsListedSo : (Answer → Type 0) → (suffix path : List ℕ) → Scan → Type 0
+abbrev pub IsListedSo : (Answer → Type 0) → (suffix path : Text) → Scan → Type 0
 IsListedSo may suffix path scan = ((scan.spot ≡ spot.Folder) × AreSightsIn may suffix path scan.sights.items)
     ⊎ (IsListingFault may path scan.spot × (scan.sights.items ≡ []))
 
 -- what it means that nothing is at a folder's path, by the symlink there, if there is one: no folder, or a folder
 -- that can't be read
-abbrev pub missing_folder : Option (List ℕ) → Spot
+abbrev pub missing_folder : Option Text → Spot
 missing_folder None = spot.Absent
 missing_folder (Some target) = spot.Unread (reasons.LinkToNothing target)
 
@@ -79,7 +80,7 @@ abbrev pub IsUnlisted : Spot → Scan → Type 0
 IsUnlisted it scan = (scan.spot ≡ it) × (scan.sights.items ≡ [])
 
 -- the outcome for a folder that is wanted and not there, by the symlink at its path, if there is one
-abbrev pub IsMissingFolder : (Answer → Type 0) → List ℕ → Scan → Type 0
+abbrev pub IsMissingFolder : (Answer → Type 0) → Text → Scan → Type 0
 IsMissingFolder may path scan = (shown : Step) × may (Stepped path shown) × IsUnlisted (missing_folder (target_of shown)) scan
 
 -- what is at a folder's path, by a look that shows neither a folder nor that nothing is there
@@ -89,13 +90,13 @@ spot_by looks.Failed = spot.Unread reasons.Failed
 spot_by _ = spot.Unread reasons.NotFolder
 
 -- the outcome for a folder that is wanted, by a look
-abbrev pub IsScannedBy : (Answer → Type 0) → (suffix path : List ℕ) → Look → Scan → Type 0
+abbrev pub IsScannedBy : (Answer → Type 0) → (suffix path : Text) → Look → Scan → Type 0
 IsScannedBy may suffix path looks.Absent scan = IsMissingFolder may path scan
 IsScannedBy may suffix path looks.Folder scan = IsListedSo may suffix path scan
 IsScannedBy may suffix path look scan = IsUnlisted (spot_by look) scan
 
 -- the outcome for a folder that is wanted, with files of a suffix
-pub record IsFolderScan (may : Answer → Type 0) (suffix path : List ℕ) (scan : Scan) : Type 0 where
+pub record IsFolderScan (may : Answer → Type 0) (suffix path : Text) (scan : Scan) : Type 0 where
   pub look : Look
   pub looked : may (Looked path look)
   pub scanned : IsScannedBy may suffix path look scan
@@ -106,14 +107,14 @@ pub record IsFolderVisit (may : Answer → Type 0) (v : Visit) : Type 0 where
   pub scan : IsFolderScan may (suffix_of v.kind) v.path v.scan
 
 -- the outcome for a named file: what is met at its path
-pub record IsOneFile (may : Answer → Type 0) (path : List ℕ) (look : Look) (scan : Scan) : Type 0 where
+pub record IsOneFile (may : Answer → Type 0) (path : Text) (look : Look) (scan : Scan) : Type 0 where
   pub at_file : scan.spot ≡ spot.File
   pub it : Met
   pub alone : scan.sights.items ≡ record { name = path; path = path; met = it } ∷ []
   pub met_so : IsMetBy may path look it
 
 -- the outcome for what is named, by a look: a folder is listed
-abbrev pub IsNamedSo : (Answer → Type 0) → FileKind → List ℕ → Look → Scan → Type 0
+abbrev pub IsNamedSo : (Answer → Type 0) → FileKind → Text → Look → Scan → Type 0
 IsNamedSo may kind path looks.Folder scan = IsListedSo may (suffix_of kind) path scan
 IsNamedSo may kind path look scan = IsOneFile may path look scan
 
@@ -127,7 +128,7 @@ pub record IsNamedVisit (may : Answer → Type 0) (kind : FileKind) (v : Visit) 
   pub scanned : IsNamedSo may kind v.path look v.scan
 
 -- the outcome for a file that is added: what is met at its path, under the name that the path ends in
-pub record IsAddedScan (may : Answer → Type 0) (path : List ℕ) (scan : Scan) : Type 0 where
+pub record IsAddedScan (may : Answer → Type 0) (path : Text) (scan : Scan) : Type 0 where
   pub at_file : scan.spot ≡ spot.File
   pub it : Met
   pub alone : scan.sights.items ≡ record { name = name_at path; path = path; met = it } ∷ []
@@ -145,12 +146,12 @@ abbrev pub place_of_visit : Visit → Place
 place_of_visit v = record { kind = v.kind; rank = v.rank; path = v.path }
 
 -- visits of what is named, in its order
-pub record AreNamedVisits (may : Answer → Type 0) (kind : FileKind) (paths : List (List ℕ)) (visits : List Visit) : Type 0 where
+pub record AreNamedVisits (may : Answer → Type 0) (kind : FileKind) (paths : List Text) (visits : List Visit) : Type 0 where
   pub named_so : map (λ v. v.path) visits ≡ paths
   pub each : All (IsNamedVisit may kind) visits
 
 -- visits of files that are added, in their order
-pub record AreAddedVisits (may : Answer → Type 0) (paths : List (List ℕ)) (visits : List Visit) : Type 0 where
+pub record AreAddedVisits (may : Answer → Type 0) (paths : List Text) (visits : List Visit) : Type 0 where
   pub added_so : map (λ v. v.path) visits ≡ paths
   pub each : All (IsAddedVisit may) visits
 

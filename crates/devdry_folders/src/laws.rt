@@ -1,6 +1,7 @@
 //! Laws of what is reported, each the contract of a function with an empty body.
 ghost use Rattle.std.specs.Prelude.{◌≡◌, ◌==◌, ◌++◌, [], ℕ, Bool, List, codes, if◌then◌else◌, length, map, nat_eq, not, true};
 ghost use Rattle.std.specs.List.{ends_with, find};
+ghost use Rattle.text_bytes.specs.Text.{Text};
 ghost use Rattle.text_bytes.specs.FileOrder.{ordered};
 ghost use Rattle.text_bytes.specs.Kinds.{suffix_of};
 ghost use Rattle.text_bytes.specs.declared.source_file.FileKind as kinds;
@@ -33,7 +34,7 @@ pub fn no_file_is_reported_where_none_is_handed_on()
 /// Whatever a disk says on the way, a path leads to nothing outside its root: each name on the way leads forward, all
 /// but the last lead to folders, and none leads to a symlink.
 pub fn a_path_leads_to_a_place_inside_its_root<D: Disk>()
-    ensures { (disk : D) (root : List ℕ) (links : ℕ) (names : Way) (it : End) (at : Way)
+    ensures { (disk : D) (root : Text) (links : ℕ) (names : Way) (it : End) (at : Way)
         → Leads (D.may_answer disk) root links [] names it at → IsInside (D.may_answer disk) root it at }
 {}
 
@@ -50,7 +51,7 @@ pub fn what_could_not_be_read_makes_the_status()
 /// that a run reads; what can't be read hides none.
 #[tactic(auto, using(crate::proofs::OneFile::read_as_reported))]
 pub fn the_file_that_counts_is_the_one_that_is_read()
-    ensures { (kind : kinds.FileKind) (visits : List visited.Visit) (sights : List seen.Sight) (name : List ℕ)
+    ensures { (kind : kinds.FileKind) (visits : List visited.Visit) (sights : List seen.Sight) (name : Text)
         → RanksRise kind 0 visits → AreByName (sights_of kind visits) sights → ends_with nat_eq name (suffix_of kind) ≡ true
         → AreOneFile visits (counting sights name) (find (λ file. same_text name file.name) (ordered (suffix_of kind) (files_of_kind kind visits))) }
 {}
@@ -58,7 +59,7 @@ pub fn the_file_that_counts_is_the_one_that_is_read()
 /// Each reason has a sentence of its own on what is wrong, and one on what to do, and none of them is empty.
 #[tactic(auto, using(crate::proofs::OwnAdvice::own_sentences))]
 pub fn each_reason_has_its_own_advice()
-    ensures { (target : List ℕ) → (differ (map wrong_by (all_reasons target)) ≡ true) × (differ (map advice_on (all_reasons target)) ≡ true) }
+    ensures { (target : Text) → (differ (map wrong_by (all_reasons target)) ≡ true) × (differ (map advice_on (all_reasons target)) ≡ true) }
 {}
 
 /// What people are told about a file that can't be read.

@@ -2,7 +2,8 @@
 //!
 //! Of files with the same name the one in the folder of least rank counts, and hides the others; one that is empty
 //! masks them, as a link to the null device does.
-ghost use Rattle.std.specs.Prelude.{◌≡◌, ◌++◌, ◌∷◌, ℕ, IfOk, List, [], OnOk, codes, if◌then◌else◌, option_copied};
+ghost use Rattle.std.specs.Prelude.{◌≡◌, ◌++◌, ◌∷◌, IfOk, [], OnOk, codes, if◌then◌else◌, option_copied};
+ghost use Rattle.text_bytes.specs.Text.{Text};
 ghost use Rattle.text_bytes.specs.Escapes.{escape_text};
 ghost use Rattle.text_bytes.specs.Names.{newline};
 ghost use Rattle.text_tables.specs.Pairs.{value_of, with_value};
@@ -76,7 +77,7 @@ fn counting_files<'b>(
     alloc: Global,
     sights: &'b [Sight],
 ) -> Result<Table<'b, &'b Sight>, AllocError>
-    ensures { IfOk result (λ files. (name : List ℕ) →
+    ensures { IfOk result (λ files. (name : Text) →
         option_copied (value_of files name) ≡ counting sights.now name) }
 {
     let mut files = Table::new(alloc);

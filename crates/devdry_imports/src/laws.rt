@@ -1,7 +1,8 @@
 //! What is true of the files that rules import, whatever a disk answers.
 //!
 //! Each function here is empty: its contract is the law.
-ghost use Rattle.std.specs.Prelude.{◌≡◌, ◌∷◌, ℕ, List, [], None, Some, codes, false, true};
+ghost use Rattle.std.specs.Prelude.{◌≡◌, ◌∷◌, [], None, Some, codes, false, true};
+ghost use Rattle.text_bytes.specs.Text.{Text};
 ghost use Rattle.rule_templates.specs.declared.piece.Piece.TheVariants.{Kernel, Plain};
 ghost use Rattle.builtin_knowledge.specs.declared.root_files.RootFile.TheVariants.{Absent, Read};
 ghost use Rattle.devdry_files.specs.Answers.Answer.{Content, Looked};
@@ -22,8 +23,8 @@ pub fn files_are_named_in_full()
 
 /// A file that a disk shows and reads is found with its bytes, and a path at which it shows nothing is found to be empty.
 pub fn what_is_there_decides<D: Disk>()
-    ensures read { (disk : D) (path bytes : List ℕ) → D.may_answer disk (Looked path look.File) → D.may_answer disk (Content path bytes)
+    ensures read { (disk : D) (path bytes : Text) → D.may_answer disk (Looked path look.File) → D.may_answer disk (Content path bytes)
         → IsFound (D.may_answer disk) path (Some (Read bytes)) }
-    ensures absent { (disk : D) (path : List ℕ) → D.may_answer disk (Looked path look.Absent) → IsFound (D.may_answer disk) path (Some Absent) }
-    ensures folder { (disk : D) (path : List ℕ) → D.may_answer disk (Looked path look.Folder) → IsFound (D.may_answer disk) path None }
+    ensures absent { (disk : D) (path : Text) → D.may_answer disk (Looked path look.Absent) → IsFound (D.may_answer disk) path (Some Absent) }
+    ensures folder { (disk : D) (path : Text) → D.may_answer disk (Looked path look.Folder) → IsFound (D.may_answer disk) path None }
 {}

@@ -1,5 +1,6 @@
 //! Looks at the paths that rules name, and reads the files there.
-ghost use Rattle.std.specs.Prelude.{◌≡◌, ◌∷◌, [], ℕ, IfOk, List, OnOk};
+ghost use Rattle.std.specs.Prelude.{◌≡◌, ◌∷◌, [], IfOk, List, OnOk};
+ghost use Rattle.text_bytes.specs.Text.{Text};
 ghost use Rattle.devdry_files.specs.Inside.{MayInside};
 ghost use Rattle.builtin_knowledge.specs.Knowledge.{FilesFound};
 ghost use Rattle.devdry_imports.specs.Naming.{paths_named};
@@ -89,7 +90,7 @@ fn look_below<D: Disk>(
     path: &[u8],
     found: &mut RootFiles,
 ) -> Result<(), AllocError>
-    ensures { OnOk result ((paths : List (List ℕ)) (last : FilesFound) → AreFound (D.may_answer disk.now) root.now paths found.new last
+    ensures { OnOk result ((paths : List Text) (last : FilesFound) → AreFound (D.may_answer disk.now) root.now paths found.new last
         → AreFound (D.may_answer disk.now) root.now (path.now ∷ paths) found.old last) }
 {
     if found.contains(path) {

@@ -1,7 +1,7 @@
 -- What a disk may answer on which an input is a file.
 use Rattle.std.specs.Prelude.{◌≡◌, MatchBool}
 use Rattle.std.specs.Str.{bytes_eq}
-use Rattle.text_tables.specs.Texts.{Text}
+use Rattle.text_bytes.specs.Text.{Text}
 use Rattle.devdry_files.specs.Answers.{Answer}
 use Rattle.devdry_files.specs.Answers.Answer.{Content, Looked, NoContent}
 use Rattle.devdry_files.specs.declared.disk.DiskFault.TheVariants.{OutOfMemory}

@@ -1,6 +1,6 @@
 -- For proofs only, no reader has to believe it: what one read adds to a text.
 use Rattle.std.specs.Prelude.{◌≡◌, ◌++◌, Bool, false, []}
-use Rattle.text_tables.specs.Texts.{Text}
+use Rattle.text_bytes.specs.Text.{Text}
 use Rattle.engine_ends.specs.Reported.{NoneLeft}
 use Rattle.engine_ends.specs.Sources.{Gives, SourceFails, SourceState}
 use Rattle.devdry_input.specs.declared.reading.InputFault.{InputFault}

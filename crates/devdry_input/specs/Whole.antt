@@ -1,6 +1,6 @@
 -- What is read of an input that is a file.
 use Rattle.std.specs.Prelude.{◌≡◌, ◌⊎◌, List, length}
-use Rattle.text_tables.specs.Texts.{Text}
+use Rattle.text_bytes.specs.Text.{Text}
 use Rattle.engine_ends.specs.Counts.{Counts}
 use Rattle.engine_ends.specs.Reported.{NoneLeft, followed_by, led_by}
 use Rattle.engine_ends.specs.Sources.{SourceFails, SourceState}

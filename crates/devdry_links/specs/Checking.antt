@@ -1,5 +1,6 @@
 -- The .link files and drop-ins of a root that are checked.
-use Rattle.std.specs.Prelude.{◌≡◌, ◌&&◌, ◌++◌, ℕ, Bool, false, List, [], codes, filter, not, Option, Some, None}
+use Rattle.std.specs.Prelude.{◌≡◌, ◌&&◌, ◌++◌, Bool, false, List, [], codes, filter, not, Option, Some, None}
+use Rattle.text_bytes.specs.Text.{Text}
 use Rattle.text_bytes.specs.FileOrder.{ordered}
 use Rattle.text_bytes.specs.Names.{dot, slash}
 use Rattle.text_bytes.specs.Texts.{begins_with, is_empty, split_once}
@@ -16,7 +17,7 @@ abbrev pub counts : SourceFile → Bool
 counts file = not (is_masked file)
 
 -- what a drop-in is called in its folder does not begin with a dot
-abbrev pub is_shown : Option (List ℕ × List ℕ) → Bool
+abbrev pub is_shown : Option (Text × Text) → Bool
 is_shown None = false
 is_shown (Some parts) = not (begins_with dot parts.1)
 
@@ -29,7 +30,7 @@ abbrev pub files_checked : LinkSurvey → List SourceFile
 files_checked survey = filter counts survey.files.items ++ filter counts_as_drop_in (ordered (codes ".conf") survey.drop_ins.items)
 
 -- The files are those that count. What can't be read is reported, and makes the least status 3.
-pub record AreLinksToCheck (may : Answer → Type 0) (root : List ℕ) (links : LinksToCheck) : Type 0 where
+pub record AreLinksToCheck (may : Answer → Type 0) (root : Text) (links : LinksToCheck) : Type 0 where
   pub survey : LinkSurvey
   pub is_survey : IsSurvey may root survey
   pub files : links.files.items ≡ files_checked survey

@@ -1,5 +1,6 @@
 -- What `verify --links` does, with a disk that may give these answers.
-use Rattle.std.specs.Prelude.{◌≡◌, ◌⊎◌, ◌==◌, ℕ, List, MatchBool, max, vec_len}
+use Rattle.std.specs.Prelude.{◌≡◌, ◌⊎◌, ◌==◌, ℕ, MatchBool, max, vec_len}
+use Rattle.text_bytes.specs.Text.{Text}
 use Rattle.engine_ends.specs.Delivery.{Delivers, IsOutOfMemory, RunOutcome}
 use Rattle.engine_ends.specs.Sinks.{BreaksOff, HandsOn, SinkState}
 use Rattle.engine_ends.specs.Streams.{Outputs}
@@ -26,7 +27,7 @@ AreRead may line links =
 
 -- The error output has what is reported, and what is said about the files follows; the status is that of the check, or the least
 -- one if that is greater.
-pub record Checks (reported : List ℕ) (least : ℕ) (outcome : RunOutcome) (status : ℕ) (before now : Outputs) : Type 0 where
+pub record Checks (reported : Text) (least : ℕ) (outcome : RunOutcome) (status : ℕ) (before now : Outputs) : Type 0 where
   pub err : SinkState
   pub hands_on : HandsOn before.err reported err
   pub own : ℕ
@@ -34,13 +35,13 @@ pub record Checks (reported : List ℕ) (least : ℕ) (outcome : RunOutcome) (st
   pub status_is : status ≡ max own least
 
 -- The error output failed at what is reported, and nothing else was done.
-pub record FailsAtReport (reported : List ℕ) (status : ℕ) (before now : Outputs) : Type 0 where
+pub record FailsAtReport (reported : Text) (status : ℕ) (before now : Outputs) : Type 0 where
   pub status_is : status ≡ 3
   pub breaks_off : BreaksOff before.err reported now.err
   pub untouched : now.out ≡ before.out
 
 -- what is reported on the reading is written first, and the check follows
-abbrev pub ChecksAfter : List ℕ → ℕ → RunOutcome → ℕ → Outputs → Outputs → Type 0
+abbrev pub ChecksAfter : Text → ℕ → RunOutcome → ℕ → Outputs → Outputs → Type 0
 ChecksAfter reported least outcome status before now = Checks reported least outcome status before now ⊎ FailsAtReport reported status before now
 
 -- Files were read, and they are checked.

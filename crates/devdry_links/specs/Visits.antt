@@ -1,5 +1,6 @@
 -- The outcome of looking for .link files and drop-ins, as it comes from the answers that a disk may give.
-use Rattle.std.specs.Prelude.{◌≡◌, ◌++◌, ◌∷◌, ℕ, All, List, [], false, flat_map, map}
+use Rattle.std.specs.Prelude.{◌≡◌, ◌++◌, ◌∷◌, All, List, [], false, flat_map, map}
+use Rattle.text_bytes.specs.Text.{Text}
 use Rattle.text_bytes.specs.declared.source_file.FileKind.TheVariants.{Rules}
 use Rattle.text_bytes.specs.declared.source_file.SourceFile.{SourceFile}
 use Rattle.devdry_files.specs.Answers.{Answer}
@@ -21,11 +22,11 @@ pub record AreVisits (may : Answer → Type 0) (places : List LinkPlaceValue) (v
   pub each : All (IsVisit may) visits
 
 -- a file of a folder; its kind is not looked at
-abbrev pub file_at : LinkPlaceValue → (name bytes : List ℕ) → SourceFile
+abbrev pub file_at : LinkPlaceValue → (name bytes : Text) → SourceFile
 file_at place name bytes = record { kind = Rules; rank = place.rank; name = place.before ++ name; bytes = bytes }
 
 -- the file at a name in a folder: one that can't be read has no bytes, so that it masks those of its name; a folder is none
-abbrev pub file_of_met : LinkPlaceValue → (name : List ℕ) → Met → List SourceFile
+abbrev pub file_of_met : LinkPlaceValue → (name : Text) → Met → List SourceFile
 file_of_met place name (met.File bytes) = file_at place name bytes ∷ []
 file_of_met place name (met.Unread reason) = file_at place name [] ∷ []
 file_of_met place name _ = []
@@ -43,9 +44,9 @@ abbrev pub files_of : List LinkVisit → List SourceFile
 files_of visits = flat_map files_of_visit visits
 
 -- the lines on what can't be read in a folder
-abbrev pub lines_on_visit : LinkVisit → List ℕ
+abbrev pub lines_on_visit : LinkVisit → Text
 lines_on_visit v = lines_on_scan false v.place.path v.scan
 
 -- the lines on what can't be read, in the order of the visits
-abbrev pub unread_lines : List LinkVisit → List ℕ
+abbrev pub unread_lines : List LinkVisit → Text
 unread_lines visits = flat_map lines_on_visit visits

@@ -1,7 +1,8 @@
 //! What is true of the folders of `.link` files, and of what is met there.
 //!
 //! Each function here is empty: its contract is the law.
-ghost use Rattle.std.specs.Prelude.{◌≡◌, ◌∷◌, ℕ, All, List, [], codes, map, true};
+ghost use Rattle.std.specs.Prelude.{◌≡◌, ◌∷◌, All, [], codes, map, true};
+ghost use Rattle.text_bytes.specs.Text.{Text};
 ghost use Rattle.text_bytes.specs.declared.source_file.FileKind.TheVariants.{Rules};
 ghost use Rattle.link_files.specs.Examples.{at};
 ghost use Rattle.link_files.specs.Files.{is_masked};
@@ -23,6 +24,6 @@ pub fn folders_have_their_places()
 
 /// A file that can't be read masks those of its name, as one without bytes does.
 pub fn what_cannot_be_read_masks()
-    ensures { (place : LinkPlaceValue) (name : List ℕ) (reason : Reason) →
+    ensures { (place : LinkPlaceValue) (name : Text) (reason : Reason) →
         All (λ file. is_masked file ≡ true) (file_of_met place name (met.Unread reason)) }
 {}

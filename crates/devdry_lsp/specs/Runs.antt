@@ -1,6 +1,6 @@
 -- What comes of the words of a command line.
 use Rattle.std.specs.Prelude.{◌≡◌, ℕ, List, []}
-use Rattle.text_tables.specs.Texts.{Text}
+use Rattle.text_bytes.specs.Text.{Text}
 use Rattle.engine_ends.specs.Delivery.{Delivers, ReportsFailure, RunOutcome}
 use Rattle.engine_ends.specs.Streams.{Streams, outputs}
 use Rattle.lsp_server.specs.Replies.{after, reply}

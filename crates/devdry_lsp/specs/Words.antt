@@ -1,7 +1,7 @@
 -- What the words of a command line ask for.
 use Rattle.std.specs.Prelude.{if◌then◌else◌, List, [], ◌∷◌, ◌||◌, codes}
 use Rattle.std.specs.Str.{bytes_eq}
-use Rattle.text_tables.specs.Texts.{Text}
+use Rattle.text_bytes.specs.Text.{Text}
 use Rattle.devdry_lsp.specs.declared.words.Asked.{Asked}
 use Rattle.devdry_lsp.specs.declared.words.Asked.TheVariants.{Help, Serve, Unknown, Version}
 

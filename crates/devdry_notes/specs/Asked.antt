@@ -1,5 +1,6 @@
 -- What a line asks to be told.
-use Rattle.std.specs.Prelude.{ℕ, Bool, true, false, not, ◌&&◌, ◌||◌, ◌==◌, List, length, map, vec_len}
+use Rattle.std.specs.Prelude.{Bool, true, false, not, ◌&&◌, ◌||◌, ◌==◌, length, map, vec_len}
+use Rattle.text_bytes.specs.Text.{Text}
 use Rattle.text_bytes.specs.declared.profile.Profile.{Profile}
 use Rattle.text_bytes.specs.declared.profile.Profile.TheVariants.{Manual, Udev}
 use Rattle.text_tables.specs.Texts.{is_among}
@@ -39,7 +40,7 @@ abbrev pub asks_kinds : Line → Bool
 asks_kinds line = asks_more line.verb line.strict line.lint || (checks line.verb && is_for_people line.format)
 
 -- whether a line asks if a file that it names is a folder: messages are for people
-abbrev pub asks_folder : Line → (path : List ℕ) → Bool
+abbrev pub asks_folder : Line → (path : Text) → Bool
 asks_folder line path = is_for_people line.format && is_among (map (λ f. f.now) line.files.items) path
 
 -- whether a line asks about rules that belong together: `verify` for every check, and `events` for what rules met

@@ -7,7 +7,8 @@ use Rattle.text_bytes.specs.Texts.{begins_with, following, is_empty}
 use Rattle.text_bytes.specs.declared.source_file.FileKind.TheVariants.{Rules}
 use Rattle.text_bytes.specs.declared.source_file.SourceFile.{SourceFile}
 use Rattle.text_links.specs.Kernels.{last_component}
-use Rattle.text_tables.specs.Texts.{Text, same_text}
+use Rattle.text_bytes.specs.Text.{Text}
+use Rattle.text_tables.specs.Texts.{same_text}
 use Rattle.engine_ends.specs.Folders.{folder_path}
 use Rattle.engine_ends.specs.Kinds.{names_files_of, same_kind}
 use Rattle.engine_ends.specs.declared.line.Line.{Line}

@@ -1,7 +1,7 @@
 -- All that is told about files before their messages.
 use Rattle.std.specs.Prelude.{Bool, List, ◌++◌}
 use Rattle.text_bytes.specs.declared.source_file.SourceFile.{SourceFile}
-use Rattle.text_tables.specs.Texts.{Text}
+use Rattle.text_bytes.specs.Text.{Text}
 use Rattle.engine_ends.specs.declared.line.Line.{Line}
 use Rattle.devdry_notes.specs.Lying.{lying_notes}
 use Rattle.devdry_notes.specs.Notes.{kind_notes, root_notes, unseen_notes}

@@ -1,6 +1,6 @@
 -- Why a file gives no options.
 use Rattle.std.specs.Prelude.{◌≡◌, ⊤, IsSomeAnd}
-use Rattle.text_tables.specs.Texts.{Text}
+use Rattle.text_bytes.specs.Text.{Text}
 use Rattle.devdry_options.specs.Files.{bad_line, said_of}
 use Rattle.devdry_options.specs.declared.files.OptionsFault.{OptionsFault}
 use Rattle.devdry_options.specs.declared.files.OptionsFault.TheVariants.{BadLine, Memory}

@@ -6,7 +6,7 @@ use Rattle.text_bytes.specs.Lines.{NumberedLine, numbered_lines}
 use Rattle.text_bytes.specs.Names.{hash}
 use Rattle.text_bytes.specs.Numbers.{capped}
 use Rattle.text_bytes.specs.Texts.{begins_with, is_empty, trimmed, unindented, word_of}
-use Rattle.text_tables.specs.Texts.{Text}
+use Rattle.text_bytes.specs.Text.{Text}
 use Rattle.devdry_options.specs.Words.{is_word}
 
 -- a line without the blanks at its start and the whitespace at its end

@@ -1,6 +1,6 @@
 -- The options that a file may give, by what they have after their name.
 use Rattle.std.specs.Prelude.{List, [], ◌∷◌, codes}
-use Rattle.text_tables.specs.Texts.{Text}
+use Rattle.text_bytes.specs.Text.{Text}
 
 -- options without a value
 unfoldable pub flag_names : List Text

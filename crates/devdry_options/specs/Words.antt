@@ -6,7 +6,8 @@ use Rattle.std.specs.Str.{is_utf8}
 use Rattle.text_bytes.specs.Escapes.{is_control}
 use Rattle.text_bytes.specs.Names.{equals, minus}
 use Rattle.text_bytes.specs.Texts.{following, split_once}
-use Rattle.text_tables.specs.Texts.{Text, same_text}
+use Rattle.text_bytes.specs.Text.{Text}
+use Rattle.text_tables.specs.Texts.{same_text}
 use Rattle.devdry_options.specs.Names.{flag_names, repeated_names, valued_names}
 
 -- what follows the two minus signs that a word begins with

@@ -1,6 +1,6 @@
 -- A name that a table took as new.
 use Rattle.std.proofs.Common.{◌≡◌, Bool, true, false, not, List, [], ◌∷◌, ◌++◌, Some, Ok, refl, ap, sym, ◌∙◌}
-use Rattle.text_tables.specs.Texts.{Text}
+use Rattle.text_bytes.specs.Text.{Text}
 use Rattle.text_tables.specs.Pairs.{Pair, named, with_value}
 use Rattle.text_tables.proofs.Found.{set_after}
 use Rattle.device_core.specs.Parts.{pair_of}

@@ -4,7 +4,8 @@ use Rattle.std.proofs.lemmas.List.{append-nil, length-append}
 use Rattle.std.specs.Option.{option_and_then, option_to_list}
 use Rattle.std.specs.List.{zip}
 use Rattle.text_bytes.specs.Texts.{first, is_empty, last}
-use Rattle.text_tables.specs.Texts.{Text, is_among, same_text}
+use Rattle.text_bytes.specs.Text.{Text}
+use Rattle.text_tables.specs.Texts.{is_among, same_text}
 use Rattle.text_tables.specs.Pairs.{Pair as NameAndValue, named}
 use Rattle.text_tables.proofs.Found.{set_after}
 use Rattle.device_core.specs.Lines.{Row, begins_answer}

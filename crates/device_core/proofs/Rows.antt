@@ -6,7 +6,7 @@ use Rattle.std.proofs.lemmas.List.Sums.{fold-append}
 use Rattle.std.specs.Option.{option_and_then}
 use Rattle.std.specs.List.{filter_map, cons_option}
 use Rattle.text_bytes.specs.Texts.{first, is_empty, last}
-use Rattle.text_tables.specs.Texts.{Text}
+use Rattle.text_bytes.specs.Text.{Text}
 use Rattle.device_core.specs.Lines.{Row}
 use Rattle.device_core.specs.Parts.{pair_of, number_of}
 use Rattle.device_core.specs.Values.{DeviceValue, AnswerValue}

@@ -5,7 +5,8 @@ use Rattle.std.specs.Option.{option_to_list}
 use Rattle.text_bytes.specs.Names.{nul}
 use Rattle.text_bytes.specs.Texts.{is_empty, last}
 use Rattle.text_bytes.specs.Lines.{lines}
-use Rattle.text_tables.specs.Texts.{Text, is_among}
+use Rattle.text_bytes.specs.Text.{Text}
+use Rattle.text_tables.specs.Texts.{is_among}
 use Rattle.text_tables.specs.Pairs.{Pair as NameAndValue, named}
 use Rattle.device_core.specs.RunBlocks.{is_too_long, line_of_excess}
 use Rattle.device_core.specs.Lines.{Row, row_of, begins_answer}

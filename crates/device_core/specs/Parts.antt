@@ -6,7 +6,7 @@ use Rattle.std.specs.List.{starts_with}
 use Rattle.text_bytes.specs.Names.{slash, colon, equals, space}
 use Rattle.text_bytes.specs.Texts.{is_empty, split_once}
 use Rattle.text_bytes.specs.Numbers.{decimal_below}
-use Rattle.text_tables.specs.Texts.{Text}
+use Rattle.text_bytes.specs.Text.{Text}
 use Rattle.text_tables.specs.Pairs.{Pair}
 use Rattle.device_core.specs.Values.{NumberValue, AnswerValue}
 

@@ -1,5 +1,6 @@
 -- What a splitter is to its callers, and what its calls do.
 use Rattle.std.specs.Prelude.{◌≡◌, ◌≢◌, ◌↔◌, ℕ, ◌<◌, ◌≤◌, Bool, true, false, IsTrue, List, [], ◌∷◌, ◌++◌, length, take}
+use Rattle.text_bytes.specs.Text.{Text}
 use Rattle.device_core.specs.Runs.{complete_runs, rest_of, runs}
 use Rattle.device_core.specs.RunBlocks.{most_bytes, line_of_excess}
 use Rattle.device_core.specs.declared.splitter.Taken.{Taken}
@@ -8,8 +9,8 @@ use Rattle.device_core.specs.declared.splitter.SplitFault.TheVariants.{TooLong, 
 
 -- the bytes taken from a run that is not complete, the complete block, and whether no more is taken
 pub record Split : Type 0 where
-  pub pending : List ℕ
-  pub block : List ℕ
+  pub pending : Text
+  pub block : Text
   pub ended : Bool
 
 -- at an input's start
@@ -21,14 +22,14 @@ abbrev pub closed : Split
 closed = record { pending = []; block = []; ended = true }
 
 -- the block, if one is complete
-abbrev pub completed : Bool → List ℕ → List (List ℕ)
+abbrev pub completed : Bool → Text → List Text
 completed true block = block ∷ []
 completed false block = []
 
 -- What `take` does: it uses the piece up to the end of the first block completed, or else all of it.
 -- Of the pending bytes followed by those used, the block is the only complete run, and the new pending
 -- bytes are the rest.
-pub record SplitTakes (old : Split) (piece : List ℕ) (taken : Taken) (new : Split) : Type 0 where
+pub record SplitTakes (old : Split) (piece : Text) (taken : Taken) (new : Split) : Type 0 where
   pub used : taken.used ≤ length piece
   pub complete : complete_runs (old.pending ++ take taken.used piece) ≡ completed taken.whole new.block
   pub pending : rest_of (old.pending ++ take taken.used piece) ≡ new.pending
@@ -40,17 +41,17 @@ pub record SplitTakes (old : Split) (piece : List ℕ) (taken : Taken) (new : Sp
   pub proceeds : (old.ended ≡ false) × (new.ended ≡ false)
 
 -- The first run of the text has more bytes than a block may have, and its first excess byte is in this line.
-pub record BeginsTooLong (text : List ℕ) (line : ℕ) : Type 0 where
-  pub run : List ℕ
-  pub others : List (List ℕ)
+pub record BeginsTooLong (text : Text) (line : ℕ) : Type 0 where
+  pub run : Text
+  pub others : List Text
   pub found : runs text ≡ run ∷ others
   pub too_long : most_bytes < length run
   pub counted : line ≡ line_of_excess run
 
 -- What `take` does if it fails. The run that begins with the pending bytes and goes on with the
 -- piece is too long, whatever comes after the piece; or the input had ended.
-abbrev pub SplitFailsBy : SplitFault → Split → List ℕ → Split → Type 0
-SplitFailsBy (TooLong line) old piece new = ((later : List ℕ) → BeginsTooLong (old.pending ++ piece ++ later) line) × (old.ended ≡ false) × (new ≡ closed)
+abbrev pub SplitFailsBy : SplitFault → Split → Text → Split → Type 0
+SplitFailsBy (TooLong line) old piece new = ((later : Text) → BeginsTooLong (old.pending ++ piece ++ later) line) × (old.ended ≡ false) × (new ≡ closed)
 SplitFailsBy Ended old piece new = (old.ended ≡ true) × (new ≡ closed)
 
 -- What `end` does: the pending bytes are the last block, if there are any.

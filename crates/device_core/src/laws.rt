@@ -2,7 +2,7 @@
 //! contract is the law.
 ghost use Rattle.std.specs.Prelude.{◌≡◌, List, [], ◌∷◌, ◌++◌, Option, Some, None, codes, true, false};
 ghost use Rattle.std.specs.List.{AllByRecursion};
-ghost use Rattle.text_tables.specs.Texts.{Text};
+ghost use Rattle.text_bytes.specs.Text.{Text};
 ghost use Rattle.text_tables.specs.Pairs.{Pair};
 ghost use Rattle.device_core.specs.Blocks.{behind_in, is_kind};
 ghost use Rattle.device_core.specs.Lines.{Row};

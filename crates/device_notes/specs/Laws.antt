@@ -1,7 +1,7 @@
 -- Serves laws alone: the notes of one kind, and texts that differ from others.
 use Rattle.std.specs.Prelude.{Bool, true, false, ◌≢◌, List, filter}
 use Rattle.std.specs.List.{AllByRecursion}
-use Rattle.text_tables.specs.Texts.{Text}
+use Rattle.text_bytes.specs.Text.{Text}
 use Rattle.device_core.specs.Values.{EventValue}
 use Rattle.device_notes.specs.Notes.{block_notes}
 use Rattle.device_notes.specs.declared.kinds.BlockNoteKind.{BlockNoteKind}

@@ -5,7 +5,8 @@ use Rattle.std.specs.List.{starts_with}
 use Rattle.text_bytes.specs.Texts.{is_empty, word_of}
 use Rattle.text_bytes.specs.declared.profile.Profile.{Profile}
 use Rattle.text_bytes.specs.declared.profile.Profile.TheVariants.{Manual, Udev}
-use Rattle.text_tables.specs.Texts.{Text, is_among, same_text}
+use Rattle.text_bytes.specs.Text.{Text}
+use Rattle.text_tables.specs.Texts.{is_among, same_text}
 use Rattle.text_tables.specs.Pairs.{value_of}
 use Rattle.device_core.specs.Values.{EventValue}
 use Rattle.device_notes.specs.declared.kinds.BlockNoteKind.{BlockNoteKind}

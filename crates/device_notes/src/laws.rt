@@ -1,7 +1,7 @@
 //! What is true of the notes about a block. Each function here is empty: its contract is the law.
 ghost use Rattle.std.specs.Prelude.{◌≡◌, ◌≢◌, ◌↔◌, ◌⊎◌, ◌∷◌, ◌++◌, ℕ, [], None, Some, codes, unwrap_or};
 ghost use Rattle.text_bytes.specs.declared.profile.Profile.TheVariants.{Manual, Udev};
-ghost use Rattle.text_tables.specs.Texts.{Text};
+ghost use Rattle.text_bytes.specs.Text.{Text};
 ghost use Rattle.text_tables.specs.Pairs.{value_of};
 ghost use Rattle.device_core.specs.Values.{EventValue};
 ghost use Rattle.device_notes.specs.Laws.{IsNoneOf, notes_of};

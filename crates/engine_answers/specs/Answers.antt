@@ -1,7 +1,7 @@
 -- The answer to an event, with where each of its lines comes from in front of it or without.
 use Rattle.std.specs.Prelude.{List, [], ◌∷◌, ◌++◌, Some, None, codes, flat_map, map}
 use Rattle.text_bytes.specs.Names.{newline}
-use Rattle.text_tables.specs.Texts.{Text}
+use Rattle.text_bytes.specs.Text.{Text}
 use Rattle.text_tables.specs.Pairs.{Pair}
 use Rattle.builtin_knowledge.specs.Knowledge.{Known}
 use Rattle.rule_types.specs.Rules.{Rule}

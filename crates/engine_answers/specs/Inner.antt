@@ -1,7 +1,7 @@
 -- Serves inner proofs only: lines before it is known whether something in them has to be escaped.
 use Rattle.std.specs.Prelude.{ℕ, [], ◌∷◌, ◌++◌, List, codes, cond, count_by, flat_map, not}
 use Rattle.text_bytes.specs.Names.{space, equals, newline}
-use Rattle.text_tables.specs.Texts.{Text}
+use Rattle.text_bytes.specs.Text.{Text}
 use Rattle.text_tables.specs.Pairs.{Pair}
 use Rattle.engine_answers.specs.Lines.{is_hidden, pair_line}
 

@@ -2,7 +2,7 @@
 use Rattle.std.specs.Prelude.{Bool, true, false, ◌==◌, List, [], ◌∷◌, ◌++◌, codes, flat_map}
 use Rattle.text_bytes.specs.Names.{space, equals, dot, newline}
 use Rattle.text_bytes.specs.Escapes.{escape_text}
-use Rattle.text_tables.specs.Texts.{Text}
+use Rattle.text_bytes.specs.Text.{Text}
 use Rattle.text_tables.specs.Pairs.{Pair}
 use Rattle.rule_types.specs.Names.{run_name}
 use Rattle.device_core.specs.Values.{EventValue}

@@ -1,7 +1,7 @@
 //! What is in front of the lines of an answer.
 ghost use Rattle.std.specs.Prelude.{◌≡◌, ◌++◌, [], None, true, OnOk, option_map};
 ghost use Rattle.text_bytes.specs.declared.profile.Profile.{Profile};
-ghost use Rattle.text_tables.specs.Texts.{Text};
+ghost use Rattle.text_bytes.specs.Text.{Text};
 ghost use Rattle.text_tables.specs.Pairs.{Pair};
 ghost use Rattle.eval_effects.specs.Items.{item_name, label_item};
 ghost use Rattle.eval_sources.specs.Sources.{source_in};

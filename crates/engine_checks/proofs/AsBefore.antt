@@ -8,7 +8,7 @@ use Rattle.text_bytes.specs.declared.profile.Profile.TheVariants.{Manual}
 use Rattle.text_bytes.specs.declared.source_file.SourceFile.{SourceFile}
 use Rattle.text_bytes.specs.declared.source_file.FileKind.TheVariants.{Rules}
 use Rattle.file_messages.specs.Messages.{is_style}
-use Rattle.text_tables.specs.Texts.{Text}
+use Rattle.text_bytes.specs.Text.{Text}
 use Rattle.file_messages.specs.declared.message.MessageKind.{MessageKind}
 use Rattle.hwdb_core.specs.Sources.{messages_of}
 use Rattle.hwdb_lints.specs.Lints.{database_lints}

@@ -6,7 +6,7 @@ use Rattle.std.proofs.lemmas.List.{get_or-reverse, length-reverse, take_all}
 use Rattle.std.proofs.lemmas.List.Sums.{prefix_len-drop_all, prefix_len-drop_no, prefix_len_stops, suffix_len-le-length, suffix_len-take_no}
 use Rattle.text_bytes.specs.Names.{is_blank, is_whitespace}
 use Rattle.text_bytes.specs.Texts.{trimmed, unindented}
-use Rattle.text_tables.specs.Texts.{Text}
+use Rattle.text_bytes.specs.Text.{Text}
 use Rattle.engine_checks.specs.Ignores.{code_in}
 
 module _ (p : ℕ → Bool) where

@@ -10,7 +10,8 @@ use Rattle.rule_lints.specs.declared.lint.Lint.TheVariants.{ModeNotOctal, SignOf
 use Rattle.hwdb_lints.specs.declared.lint.DatabaseLint.TheVariants.{DigitCase, NoModalias, EndMissing, UnknownPrefix, MatchTwice, PropertyTwice, BlankAtEquals}
 use Rattle.hwdb_lints.specs.declared.lint.DatabaseLint.TheVariants.{OddName, BlankAtEnd, ByteOrderMark, CutWord, OpenSet, WrongValue}
 use Rattle.link_lints.specs.declared.fault.LinkFault.TheVariants as link
-use Rattle.text_tables.specs.Texts.{Text, same_text}
+use Rattle.text_bytes.specs.Text.{Text}
+use Rattle.text_tables.specs.Texts.{same_text}
 use Rattle.engine_formats.specs.Codes.{remark_of, remarks}
 use Rattle.engine_formats.specs.Remarks.{code_of, heading_parts}
 use Rattle.engine_formats.specs.declared.remark.Remark.{Remark}

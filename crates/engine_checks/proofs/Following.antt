@@ -7,7 +7,7 @@ use Rattle.text_bytes.specs.Lines.{NumberedLine, numbered_lines}
 use Rattle.text_bytes.specs.Numbers.{capped}
 use Rattle.text_bytes.specs.declared.source_file.FileKind.{FileKind}
 use Rattle.text_bytes.specs.declared.source_file.SourceFile.{SourceFile}
-use Rattle.text_tables.specs.Texts.{Text}
+use Rattle.text_bytes.specs.Text.{Text}
 use Rattle.text_bytes.specs.Texts.{following}
 use Rattle.engine_checks.specs.Ignores.{Ignore, asked_by, asked_or, comment_of, ignore_at, ignores_after, ignores_among, ignores_at, ignores_in, ignores_of_line, next_after, starts_of, texts_of}
 use Rattle.engine_checks.specs.Laws.{IsAboutNext, IsFirstAfter}

@@ -4,7 +4,7 @@ use Rattle.std.specs.List.{slice_split, position}
 use Rattle.std.proofs.lemmas.List.{length-take-le, length-drop}
 use Rattle.text_bytes.specs.Names.{comma}
 use Rattle.text_bytes.specs.Texts.{split_once}
-use Rattle.text_tables.specs.Texts.{Text}
+use Rattle.text_bytes.specs.Text.{Text}
 use Rattle.text_core.proofs.Cutting.{position-lt, split_none, split_some}
 use Rattle.engine_checks.specs.Ignores.{Ignore, ignore_at, ignores_at}
 use Rattle.engine_checks.specs.declared.ignores.Scope.{Scope}

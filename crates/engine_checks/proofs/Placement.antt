@@ -12,7 +12,8 @@ use Rattle.text_bytes.specs.Texts.{following, unindented}
 use Rattle.text_bytes.specs.declared.source_file.FileKind.{FileKind}
 use Rattle.text_bytes.specs.declared.source_file.FileKind.TheVariants.{Hwdb, Rules}
 use Rattle.text_bytes.specs.declared.source_file.SourceFile.{SourceFile}
-use Rattle.text_tables.specs.Texts.{Text, same_text}
+use Rattle.text_bytes.specs.Text.{Text}
+use Rattle.text_tables.specs.Texts.{same_text}
 use Rattle.engine_formats.specs.Placing.{line_numbered}
 use Rattle.engine_checks.specs.Ignores.{asked_by, asked_or, before_reason, code_column, code_in, comment_of, ignore_at, ignores_after, ignores_among, ignores_asked, ignores_at, ignores_in, ignores_of_line, next_after, reason_place, starts_of, texts_of}
 use Rattle.engine_checks.specs.Laws.{IsInLine}

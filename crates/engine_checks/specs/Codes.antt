@@ -1,7 +1,8 @@
 -- The codes of remarks, by which `--ignore` and comments name them.
 use Rattle.std.specs.Prelude.{Bool, true, false, List, codes}
 use Rattle.std.specs.Option.{option_map_or}
-use Rattle.text_tables.specs.Texts.{Text, is_among}
+use Rattle.text_bytes.specs.Text.{Text}
+use Rattle.text_tables.specs.Texts.{is_among}
 use Rattle.engine_formats.specs.Codes.{remark_of}
 use Rattle.engine_formats.specs.declared.remark.Remark.{Remark}
 use Rattle.engine_formats.specs.declared.remark.Remark.TheVariants.{Message, Lint, DatabaseLint, LinkFault}

@@ -3,7 +3,7 @@ use Rattle.std.specs.Prelude.{◌||◌, if◌then◌else◌, List, [], ◌∷◌
 use Rattle.text_bytes.specs.Lines.{numbered_lines}
 use Rattle.file_messages.specs.declared.message.Message.{Message}
 use Rattle.text_bytes.specs.declared.source_file.SourceFile.{SourceFile}
-use Rattle.text_tables.specs.Texts.{Text}
+use Rattle.text_bytes.specs.Text.{Text}
 use Rattle.hwdb_core.specs.Sources.{messages_of}
 use Rattle.hwdb_lints.specs.Lints.{database_lints}
 use Rattle.hwdb_lints.specs.declared.placed_lint.PlacedLint.{PlacedLint}

@@ -11,7 +11,7 @@ use Rattle.text_bytes.specs.declared.profile.Profile.{Profile}
 use Rattle.text_bytes.specs.declared.source_file.FileKind.{FileKind}
 use Rattle.text_bytes.specs.declared.source_file.FileKind.TheVariants.{Hwdb, Rules}
 use Rattle.text_bytes.specs.declared.source_file.SourceFile.{SourceFile}
-use Rattle.text_tables.specs.Texts.{Text}
+use Rattle.text_bytes.specs.Text.{Text}
 use Rattle.rule_core.specs.Lines.{joined_lines}
 use Rattle.engine_checks.specs.declared.ignores.Scope.{Scope}
 use Rattle.engine_checks.specs.declared.ignores.Scope.TheVariants.{File, Next, Unread}
@@ -95,17 +95,17 @@ abbrev pub ignores_of_line : FileKind → Option ℕ → NumberedLine → List I
 ignores_of_line kind next l = ignores_after l next (following (codes "# devdry:") (comment_of kind l.text))
 
 -- the first line after another one, by the numbers of lines
-abbrev pub next_after : List ℕ → ℕ → Option ℕ
+abbrev pub next_after : Text → ℕ → Option ℕ
 next_after starts line = find (nat_lt line) starts
 
 -- the lines whose numbers rules have, also the one that is open at the end of the file; in a database the lines that
 -- are not comments
-abbrev pub starts_of : Profile → FileKind → List ℕ → List ℕ
+abbrev pub starts_of : Profile → FileKind → Text → Text
 starts_of profile Rules bytes = map (λ l. l.number) (joined_lines profile bytes).lines ++ option_to_list (joined_lines profile bytes).open_at
 starts_of profile Hwdb bytes = map (λ l. capped l.number) (filter (λ l. not (begins_with hash l.text)) (numbered_lines bytes))
 
 -- the codes in lines, where each comment on the next rule is about the first of these starts after it
-abbrev pub ignores_among : FileKind → List ℕ → List NumberedLine → List Ignore
+abbrev pub ignores_among : FileKind → Text → List NumberedLine → List Ignore
 ignores_among kind starts lines = flat_map (λ l. ignores_of_line kind (next_after starts (capped l.number)) l) lines
 
 -- the codes that comments in a file ask to ignore, in the order of their places

@@ -1,5 +1,6 @@
 -- What is left out, what is said about codes in comments, and where these are.
 use Rattle.std.specs.Prelude.{◌≡◌, ◌⊎◌, ◌<◌, ◌≤◌, ◌-◌, ℕ, Bool, true, false, List, ◌∷◌, ◌++◌, filter, map, not, take, drop, All, Contains, Option, Some, None}
+use Rattle.text_bytes.specs.Text.{Text}
 use Rattle.text_bytes.specs.Lines.{numbered_lines}
 use Rattle.text_bytes.specs.Texts.{trimmed, unindented}
 use Rattle.text_bytes.specs.declared.source_file.SourceFile.{SourceFile}
@@ -88,18 +89,18 @@ IsSaidOf found ignore (Some (LinkFault fault)) = ⊥
 
 -- A code in a comment is in the line with its number at its columns, without the blanks before it and the whitespace
 -- after it.
-pub record IsInLine (bytes : List ℕ) (ignore : Ignore) : Type 0 where
+pub record IsInLine (bytes : Text) (ignore : Ignore) : Type 0 where
   pub text : take (ignore.end - ignore.column) (drop (ignore.column - 1) (line_numbered (numbered_lines bytes) ignore.line)) ≡ ignore.code
   pub begins : 0 < ignore.column
   pub prefix : unindented ignore.code ≡ ignore.code
   pub back : trimmed ignore.code ≡ ignore.code
 
 -- A line is the first of these numbers after another one, and there is no line if no number is after that.
-abbrev pub IsFirstAfter : List ℕ → ℕ → Option ℕ → Type 0
+abbrev pub IsFirstAfter : Text → ℕ → Option ℕ → Type 0
 IsFirstAfter starts line None = All (λ start. start ≤ line) starts
 IsFirstAfter starts line (Some next) =
-    (passed : List ℕ) × ((more : List ℕ) × ((starts ≡ passed ++ next ∷ more) × (All (λ start. start ≤ line) passed × (line < next))))
+    (passed : Text) × ((more : Text) × ((starts ≡ passed ++ next ∷ more) × (All (λ start. start ≤ line) passed × (line < next))))
 
 -- A comment on the next rule is about the first of these lines after its own.
-abbrev pub IsAboutNext : List ℕ → Ignore → Type 0
+abbrev pub IsAboutNext : Text → Ignore → Type 0
 IsAboutNext starts ignore = (next : Option ℕ) → ignore.scope ≡ Next next → IsFirstAfter starts ignore.line next

@@ -2,7 +2,7 @@
 use Rattle.std.specs.Prelude.{ℕ, ◌||◌, if◌then◌else◌, List, [], Option}
 use Rattle.text_bytes.specs.declared.profile.Profile.{Profile}
 use Rattle.text_bytes.specs.declared.profile.Profile.TheVariants.{Manual, Udev}
-use Rattle.text_tables.specs.Texts.{Text}
+use Rattle.text_bytes.specs.Text.{Text}
 use Rattle.file_messages.specs.declared.message.MessageKind.{MessageKind}
 use Rattle.rule_lints.specs.declared.lint.Lint.{Lint}
 use Rattle.rule_jumps.specs.declared.jumps.Landing.{Landing}

@@ -3,7 +3,7 @@ use Rattle.std.specs.Prelude.{if◌then◌else◌, List, ◌++◌, flat_map, map
 use Rattle.text_bytes.specs.Lines.{numbered_lines}
 use Rattle.text_bytes.specs.declared.source_file.FileKind.TheVariants.{Rules}
 use Rattle.text_bytes.specs.declared.source_file.SourceFile.{SourceFile}
-use Rattle.text_tables.specs.Texts.{Text}
+use Rattle.text_bytes.specs.Text.{Text}
 use Rattle.link_files.specs.Files as links
 use Rattle.link_lints.specs.Matching.{link_faults}
 use Rattle.link_lints.specs.declared.placed_fault.PlacedFault.{PlacedFault}

@@ -1,6 +1,7 @@
 //! What the texts of `--ignore` ask for.
 ghost use Rattle.std.specs.Prelude.{◌≡◌, IfOk, map, option_map};
-ghost use Rattle.text_tables.specs.Texts.{Text, is_among};
+ghost use Rattle.text_bytes.specs.Text.{Text};
+ghost use Rattle.text_tables.specs.Texts.{is_among};
 ghost use Rattle.engine_checks.specs.Codes.{has_comments};
 ghost use Rattle.engine_checks.specs.Files.{accounts_by, ignored_by};
 ghost use Rattle.rule_remarks.specs.AccountLines.{accounts_of};

@@ -1,6 +1,6 @@
 //! Codes at lines, each once, so that a long file is searched only once.
 ghost use Rattle.std.specs.Prelude.{◌≡◌, ◌||◌, [], ℕ, OnOk};
-ghost use Rattle.text_tables.specs.Texts.{Text};
+ghost use Rattle.text_bytes.specs.Text.{Text};
 ghost use Rattle.engine_checks.specs.Tables.{has_code_at, is_code_at};
 
 use indexmap::IndexSet;
@@ -15,8 +15,9 @@ pub(crate) struct LineCodes<'a> {
 
 impl<'a> Model for LineCodes<'a> {
     ghost use Rattle.std.specs.Prelude.{List, ℕ, map};
+    ghost use Rattle.text_bytes.specs.Text.{Text};
 
-    ghost Value = { List (ℕ × List ℕ) };
+    ghost Value = { List (ℕ × Text) };
 
     ghost view = { λ c. map (λ k. (k.0, k.1.now)) c.held.keys };
 }

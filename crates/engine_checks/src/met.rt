@@ -1,7 +1,8 @@
 //! Which codes in comments silence nothing that was found in a file, or are unknown.
 ghost use Rattle.std.specs.Prelude.{◌≡◌, ℕ, map, IfOk};
 ghost use Rattle.std.specs.List.{list_any};
-ghost use Rattle.text_tables.specs.Texts.{Text, is_among};
+ghost use Rattle.text_bytes.specs.Text.{Text};
+ghost use Rattle.text_tables.specs.Texts.{is_among};
 ghost use Rattle.engine_formats.specs.Diagnostics.{shown};
 ghost use Rattle.engine_checks.specs.Ignores as ignores;
 ghost use Rattle.engine_checks.specs.Tables.{has_code, has_code_at, has_code_in, is_met, remark_by};

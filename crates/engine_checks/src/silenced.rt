@@ -3,7 +3,8 @@
 //! They are looked up in tables, so that a file with many comments and many faults is searched only once.
 ghost use Rattle.std.specs.Prelude.{◌≡◌, ◌||◌, ℕ, IfOk, OnOk};
 ghost use Rattle.std.specs.List.{list_any};
-ghost use Rattle.text_tables.specs.Texts.{Text, is_among, same_text};
+ghost use Rattle.text_bytes.specs.Text.{Text};
+ghost use Rattle.text_tables.specs.Texts.{is_among, same_text};
 ghost use Rattle.engine_formats.specs.Diagnostics.{DiagnosticValue, shown};
 ghost use Rattle.engine_checks.specs.Tables.{are_silencing, has_code_at, is_file, is_in_file, is_next_at, next_line};
 ghost use Rattle.engine_checks.specs.Reported.{is_silenced};

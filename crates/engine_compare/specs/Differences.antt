@@ -3,7 +3,7 @@ use Rattle.std.specs.Prelude.{Bool, not, ◌||◌, ◌&&◌, ◌==◌, if◌then
 use Rattle.std.specs.List.{starts_with}
 use Rattle.text_bytes.specs.Names.{newline}
 use Rattle.text_bytes.specs.Lines.{lines}
-use Rattle.text_tables.specs.Texts.{Text}
+use Rattle.text_bytes.specs.Text.{Text}
 use Rattle.device_core.specs.Values.{EventValue}
 use Rattle.engine_ends.specs.EventLine.{event_line}
 use Rattle.text_tallies.specs.Surplus.{ShownLine, line_of, surplus_by}

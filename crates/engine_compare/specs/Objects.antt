@@ -1,6 +1,6 @@
 -- What appears and disappears as an object of JSON.
 use Rattle.std.specs.Prelude.{Bool, ◌&&◌, ◌==◌, if◌then◌else◌, List, [], ◌∷◌, length, codes, map}
-use Rattle.text_tables.specs.Texts.{Text}
+use Rattle.text_bytes.specs.Text.{Text}
 use Rattle.json.specs.Json.{Json}
 use Rattle.text_json.specs.Told.{told}
 use Rattle.text_json.specs.Values.{array_of, object_of, value_line}

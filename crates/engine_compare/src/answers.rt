@@ -1,6 +1,6 @@
 //! What appears and disappears between two answers to the same event, as text, and which side a message is about.
 ghost use Rattle.std.specs.Prelude.{◌≡◌, ◌++◌, ◌∷◌, [], List, filter, map, IfOk, OnOk};
-ghost use Rattle.text_tables.specs.Texts.{Text};
+ghost use Rattle.text_bytes.specs.Text.{Text};
 ghost use Rattle.text_tallies.specs.Surplus.{ShownLine, line_of};
 ghost use Rattle.text_bytes.specs.Lines.{lines};
 ghost use Rattle.engine_compare.specs.Differences.{after_first, beside, compared_lines, differences, is_compared, marked_line};

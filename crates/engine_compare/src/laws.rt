@@ -2,7 +2,7 @@
 ghost use Rattle.std.specs.Prelude.{◌≡◌, ◌↔◌, ◌++◌, ◌∷◌, [], codes};
 ghost use Rattle.text_json.specs.Told.{told};
 ghost use Rattle.text_json.specs.Values.{array_of, object_of, value_line};
-ghost use Rattle.text_tables.specs.Texts.{Text};
+ghost use Rattle.text_bytes.specs.Text.{Text};
 ghost use Rattle.text_tallies.specs.Surplus.{times};
 ghost use Rattle.device_core.specs.Values.{EventValue};
 ghost use Rattle.engine_ends.specs.EventLine.{event_line};

@@ -1,6 +1,6 @@
 -- From the steps of a comparison to what it serves.
 use Rattle.std.proofs.Common.{◌≡◌, ℕ, Bool, List, inl, inr, refl, subst, Result, Ok, Err}
-use Rattle.text_tables.specs.Texts.{Text}
+use Rattle.text_bytes.specs.Text.{Text}
 use Rattle.engine_ends.specs.Streams.{Streams, outputs}
 use Rattle.engine_ends.specs.Readers.{is_for_people}
 use Rattle.engine_ends.specs.declared.line.Line.{Line}

@@ -6,7 +6,8 @@ use Rattle.text_bytes.specs.Names.{newline}
 use Rattle.text_bytes.specs.Texts.{is_empty}
 use Rattle.text_bytes.specs.declared.source_file.SourceFile.{SourceFile}
 use Rattle.text_bytes.specs.declared.source_file.FileKind.TheVariants.{Rules}
-use Rattle.text_tables.specs.Texts.{Text, same_text}
+use Rattle.text_bytes.specs.Text.{Text}
+use Rattle.text_tables.specs.Texts.{same_text}
 use Rattle.rule_format.specs.Mended.{mended}
 use Rattle.engine_ends.specs.declared.line.Line.{Line}
 use Rattle.engine_ends.specs.Delivery.{RunOutcome}

@@ -2,7 +2,7 @@
 -- the root, of the outcome of opening an index and of the input.
 use Rattle.std.specs.Prelude.{Bool, true, false, not, ◌||◌, ◌&&◌, ◌==◌, if◌then◌else◌, List, codes, map, Option, Some, None, Result, Ok, Err, vec_len}
 use Rattle.std.specs.Str.{bytes_eq}
-use Rattle.text_tables.specs.Texts.{Text}
+use Rattle.text_bytes.specs.Text.{Text}
 use Rattle.text_bytes.specs.declared.source_file.SourceFile.{SourceFile}
 use Rattle.index_reading.specs.declared.fault.IndexFault.{IndexFault}
 use Rattle.index_reading.specs.Contents.{Contents}

@@ -2,7 +2,7 @@
 use Rattle.std.proofs.Common.{◌≡◌, ℕ, ◌-◌, ◌^◌, Bool, true, false, ◌&&◌, cond, min, nat_lt, Some, None, refl, ap, sym, arith}
 use Rattle.std.proofs.lemmas.Bool.Decides.{nat_tests}
 use Rattle.text_bytes.specs.Numbers.{decimal, decimal_below, is_decimal}
-use Rattle.text_tables.specs.Texts.{Text}
+use Rattle.text_bytes.specs.Text.{Text}
 use Rattle.engine_courses.specs.Nearest.{line_number}
 
 below_is : (n m : ℕ) (t : Bool) → nat_lt m (2 ^ 32) ≡ t → Some n ≡ cond t (Some m) None → Some n ≡ Some (min m (2 ^ 32 - 1))

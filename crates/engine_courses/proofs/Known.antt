@@ -3,7 +3,7 @@ use Rattle.std.proofs.Common.{◌≡◌, ℕ, Bool, true, false, not, ◌||◌, 
 use Rattle.std.specs.List.{find, list_any}
 use Rattle.std.proofs.lemmas.List.Folds.{list_any-append}
 use Rattle.file_messages.specs.declared.message.Message.{Message}
-use Rattle.text_tables.specs.Texts.{Text}
+use Rattle.text_bytes.specs.Text.{Text}
 use Rattle.rule_types.specs.Rules.{Rule}
 use Rattle.engine_courses.specs.Asked.{asks, is_asked, is_known, places_of, unknown, unknown_line}
 

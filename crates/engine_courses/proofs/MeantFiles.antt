@@ -4,7 +4,8 @@ use Rattle.std.specs.Cmp.Lexicographic.{bytes_decides}
 use Rattle.std.specs.List.{find, list_any}
 use Rattle.std.specs.Option.{option_or}
 use Rattle.text_links.specs.Kernels.{last_component}
-use Rattle.text_tables.specs.Texts.{Text, same_text}
+use Rattle.text_bytes.specs.Text.{Text}
+use Rattle.text_tables.specs.Texts.{same_text}
 use Rattle.engine_formats.specs.Near as near
 use Rattle.engine_courses.specs.Meant.{file_name, meant_by, meant_file, place_called, place_near}
 use Rattle.engine_courses.specs.Named.{file_in}

@@ -4,7 +4,7 @@ use Rattle.std.specs.List.{filter_map, cons_option}
 use Rattle.std.proofs.lemmas.List.{take_all, take_more}
 use Rattle.std.proofs.lemmas.List.Elements.{filter_map-append}
 use Rattle.std.proofs.lemmas.List.Sums.{fold-append}
-use Rattle.text_tables.specs.Texts.{Text}
+use Rattle.text_bytes.specs.Text.{Text}
 use Rattle.engine_courses.specs.Inner.{nearer, nearest_so_far}
 use Rattle.engine_courses.specs.Nearest.{Candidate, Place, candidate_of, nearest}
 use Rattle.engine_courses.proofs.Least.{nearest_is}

@@ -2,7 +2,8 @@
 use Rattle.std.proofs.Common.{◌≡◌, Bool, true, false, ◌&&◌, ◌||◌, cond, eqb, [], ◌∷◌, ◌++◌, length, take, drop, Option, Some, None, option_map, append-nil, refl, ap, sym, ◌∙◌, arith}
 use Rattle.std.specs.Option.{option_map_or}
 use Rattle.std.proofs.lemmas.Bool.Decides.{nat_tests}
-use Rattle.text_tables.specs.Texts.{Text, same_text}
+use Rattle.text_bytes.specs.Text.{Text}
+use Rattle.text_tables.specs.Texts.{same_text}
 use Rattle.text_bytes.specs.Texts.{following}
 
 and_assoc : (a b c : Bool) → (a && (b && c)) ≡ ((a && b) && c)

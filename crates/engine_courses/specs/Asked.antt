@@ -5,7 +5,8 @@ use Rattle.std.specs.List.{list_any}
 use Rattle.text_bytes.specs.Escapes.{escape_text}
 use Rattle.text_bytes.specs.Names.{colon, newline}
 use Rattle.file_messages.specs.declared.message.Message.{Message}
-use Rattle.text_tables.specs.Texts.{Text, same_text}
+use Rattle.text_bytes.specs.Text.{Text}
+use Rattle.text_tables.specs.Texts.{same_text}
 use Rattle.rule_types.specs.Rules.{Rule}
 use Rattle.engine_courses.specs.Named.{alike}
 use Rattle.engine_courses.specs.Meant.{meant_file}

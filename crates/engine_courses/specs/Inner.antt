@@ -1,7 +1,7 @@
 -- Serves inner proofs only: the nearest place, one place after another, and what is reported moment by moment.
 use Rattle.std.specs.Prelude.{if◌then◌else◌, List, [], ◌∷◌, ◌++◌, Option, Some, None, flat_map, fold, refl}
 use Rattle.std.specs.Coded.{Coded, code_by, coded×, coded_list, coded_option, coded_ℕ}
-use Rattle.text_tables.specs.Texts.{Text}
+use Rattle.text_bytes.specs.Text.{Text}
 use Rattle.rule_types.specs.Rules.{Rule}
 use Rattle.eval_state.specs.KeyTables.{by_key_code}
 use Rattle.eval_state.specs.declared.scene.Scene.{Scene}

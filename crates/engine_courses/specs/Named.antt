@@ -5,7 +5,7 @@ use Rattle.text_bytes.specs.Names.{colon, slash}
 use Rattle.text_bytes.specs.Numbers.{is_digit}
 use Rattle.text_bytes.specs.Texts.{ends_in, without_last}
 use Rattle.text_links.specs.Kernels.{last_component}
-use Rattle.text_tables.specs.Texts.{Text}
+use Rattle.text_bytes.specs.Text.{Text}
 
 -- whether a path leads through a folder
 abbrev pub has_folder : Text → Bool

@@ -7,7 +7,7 @@ use Rattle.text_bytes.specs.Texts.{following}
 use Rattle.text_bytes.specs.Numbers.{capped}
 use Rattle.text_bytes.specs.Names.{colon}
 use Rattle.text_bytes.specs.Numbers.{decimal, is_decimal}
-use Rattle.text_tables.specs.Texts.{Text}
+use Rattle.text_bytes.specs.Text.{Text}
 use Rattle.engine_courses.specs.Named.{alike}
 
 -- a place: a file's name, and a line of it

@@ -1,7 +1,7 @@
 -- The answer of `--questions`: what rules ask of an event, as lines of a block.
 use Rattle.std.specs.Prelude.{List, [], ◌∷◌, ◌++◌, codes, flat_map}
 use Rattle.text_bytes.specs.Names.{newline}
-use Rattle.text_tables.specs.Texts.{Text}
+use Rattle.text_bytes.specs.Text.{Text}
 use Rattle.builtin_knowledge.specs.Knowledge.{Known}
 use Rattle.rule_types.specs.Rules.{Rule}
 use Rattle.device_core.specs.Values.{EventValue}

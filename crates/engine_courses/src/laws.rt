@@ -2,7 +2,8 @@
 ghost use Rattle.std.specs.Prelude.{◌≡◌, ◌||◌, IfSome, true, is_none, if◌then◌else◌, List, [], ◌∷◌};
 ghost use Rattle.std.specs.List.{list_all, list_any};
 ghost use Rattle.file_messages.specs.declared.message.Message as messages;
-ghost use Rattle.text_tables.specs.Texts.{Text, same_text};
+ghost use Rattle.text_bytes.specs.Text.{Text};
+ghost use Rattle.text_tables.specs.Texts.{same_text};
 ghost use Rattle.builtin_knowledge.specs.Knowledge.{Known};
 ghost use Rattle.rule_types.specs.Rules as rules;
 ghost use Rattle.device_core.specs.Values.{EventValue};

@@ -1,30 +1,31 @@
 -- What two sinks hold after a run, by its status.
-use Rattle.std.specs.Prelude.{◌≡◌, ℕ, ◌<◌, ◌≤◌, ◌⊎◌, List, codes}
+use Rattle.std.specs.Prelude.{◌≡◌, ℕ, ◌<◌, ◌≤◌, ◌⊎◌, codes}
+use Rattle.text_bytes.specs.Text.{Text}
 use Rattle.engine_ends.specs.Counts.{Counts}
 use Rattle.engine_ends.specs.Sinks.{BreaksOff, HandsOn, SinkState}
 use Rattle.engine_ends.specs.Streams.{Outputs}
 
 -- what a run writes to the output and to the error output, and its status, if nothing fails
 pub record RunOutcome : Type 0 where
-  pub output : List ℕ
-  pub messages : List ℕ
+  pub output : Text
+  pub messages : Text
   pub status : ℕ
 
 -- the line on a device that failed
-abbrev pub write_failed : List ℕ
+abbrev pub write_failed : Text
 write_failed = codes "devdry: write failed\n"
 
 -- the line on memory that ran out
-abbrev pub out_of_memory : List ℕ
+abbrev pub out_of_memory : Text
 out_of_memory = codes "devdry: out of memory\n"
 
 -- A line on a failure is passed on and its status returned, or the sink breaks off and the status is 3.
-abbrev pub ReportsFailure : List ℕ → ℕ → ℕ → SinkState → SinkState → Type 0
+abbrev pub ReportsFailure : Text → ℕ → ℕ → SinkState → SinkState → Type 0
 ReportsFailure line wanted status before now = ((status ≡ wanted) × HandsOn before line now) ⊎ ((status ≡ 3) × BreaksOff before line now)
 
 -- Nothing failed: the messages are written and flushed, the output is written in the way that is asked for, and the
 -- outcome's status is returned.
-pub record IsWhole (Written : SinkState → List ℕ → SinkState → Type 0) (outcome : RunOutcome) (status : ℕ) (before now : Outputs) : Type 0 where
+pub record IsWhole (Written : SinkState → Text → SinkState → Type 0) (outcome : RunOutcome) (status : ℕ) (before now : Outputs) : Type 0 where
   pub messages : HandsOn before.err outcome.messages now.err
   pub output : Written before.out outcome.output now.out
   pub status_is : status ≡ outcome.status

@@ -1,5 +1,6 @@
 -- What a device reports about the items that went through it: `None` if it does not report them.
-use Rattle.std.specs.Prelude.{◌≡◌, ℕ, Option, Some, None, List, [], ◌++◌}
+use Rattle.std.specs.Prelude.{◌≡◌, Option, Some, None, List, [], ◌++◌}
+use Rattle.text_bytes.specs.Text.{Text}
 
 -- what is reported once more items have followed
 abbrev pub followed_by : {A : Type 0} → Option (List A) → List A → Option (List A)
@@ -12,6 +13,6 @@ led_by first None = None
 led_by first (Some rest) = Some (first ++ rest)
 
 -- no item is to come, as far as it is reported
-abbrev pub NoneLeft : Option (List ℕ) → Type 0
+abbrev pub NoneLeft : Option Text → Type 0
 NoneLeft None = Unit {0}
 NoneLeft (Some rest) = rest ≡ []

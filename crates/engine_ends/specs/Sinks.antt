@@ -1,12 +1,13 @@
 -- What a sink shows, and what its calls change.
-use Rattle.std.specs.Prelude.{◌≡◌, ℕ, ◌≤◌, Option, None, List, length, take}
+use Rattle.std.specs.Prelude.{◌≡◌, ℕ, ◌≤◌, Option, None, length, take}
+use Rattle.text_bytes.specs.Text.{Text}
 use Rattle.engine_ends.specs.Reported.{followed_by}
 use Rattle.engine_ends.specs.Counts.{Counts}
 
 -- the bytes that a sink took and those that it flushed, if it reports them, and how many of its calls failed
 pub record SinkState : Type 0 where
-  pub taken : Option (List ℕ)
-  pub flushed : Option (List ℕ)
+  pub taken : Option Text
+  pub flushed : Option Text
   pub faults : ℕ
 
 -- what a sink that does not report its bytes shows
@@ -14,7 +15,7 @@ abbrev pub unreported_sink : ℕ → SinkState
 unreported_sink faults = record { taken = None; flushed = None; faults = faults }
 
 -- The sink took these bytes; nothing more was flushed, and no call failed.
-pub record Takes (before : SinkState) (bytes : List ℕ) (now : SinkState) : Type 0 where
+pub record Takes (before : SinkState) (bytes : Text) (now : SinkState) : Type 0 where
   pub taken : now.taken ≡ followed_by before.taken bytes
   pub flushed : now.flushed ≡ before.flushed
   pub well : now.faults ≡ before.faults
@@ -32,17 +33,17 @@ pub record SinkFails (before now : SinkState) : Type 0 where
   pub failed : Counts 1 before.faults now.faults
 
 -- The sink took a whole text and flushed all that it took, and no call failed.
-pub record HandsOn (before : SinkState) (text : List ℕ) (now : SinkState) : Type 0 where
+pub record HandsOn (before : SinkState) (text : Text) (now : SinkState) : Type 0 where
   pub taken : now.taken ≡ followed_by before.taken text
   pub flushed : now.flushed ≡ now.taken
   pub well : now.faults ≡ before.faults
 
 -- The sink took a first part of a text, perhaps all of it or nothing.
-abbrev pub HasBegun : SinkState → List ℕ → SinkState → Type 0
+abbrev pub HasBegun : SinkState → Text → SinkState → Type 0
 HasBegun before text now = (n : ℕ) × (n ≤ length text) × (now.taken ≡ followed_by before.taken (take n text))
 
 -- The sink took a first part of a text, and then a call failed; nothing more was flushed.
-pub record BreaksOff (before : SinkState) (text : List ℕ) (now : SinkState) : Type 0 where
+pub record BreaksOff (before : SinkState) (text : Text) (now : SinkState) : Type 0 where
   pub taken : HasBegun before text now
   pub flushed : now.flushed ≡ before.flushed
   pub failed : Counts 1 before.faults now.faults

@@ -1,13 +1,14 @@
 -- What a source shows, and what a read changes.
 use Rattle.std.specs.Prelude.{◌≡◌, ℕ, Option, None, List, [], ◌∷◌}
+use Rattle.text_bytes.specs.Text.{Text}
 use Rattle.engine_ends.specs.Reported.{followed_by, led_by}
 use Rattle.engine_ends.specs.Counts.{Counts}
 
 -- the pieces read and the bytes still to come, if a source reports them, how many reads were made of it, and how many
 -- of these failed
 pub record SourceState : Type 0 where
-  pub pieces : Option (List (List ℕ))
-  pub left : Option (List ℕ)
+  pub pieces : Option (List Text)
+  pub left : Option Text
   pub reads : ℕ
   pub faults : ℕ
 
@@ -16,7 +17,7 @@ abbrev pub unreported_source : ℕ → ℕ → SourceState
 unreported_source reads faults = record { pieces = None; left = None; reads = reads; faults = faults }
 
 -- One read was made, and it gave a piece, the first of the bytes still to come.
-pub record Gives (before : SourceState) (piece : List ℕ) (now : SourceState) : Type 0 where
+pub record Gives (before : SourceState) (piece : Text) (now : SourceState) : Type 0 where
   pub pieces : now.pieces ≡ followed_by before.pieces (piece ∷ [])
   pub left : before.left ≡ led_by piece now.left
   pub reads : Counts 1 before.reads now.reads

@@ -6,7 +6,8 @@ use Rattle.std.proofs.lemmas.Fmt.{decimal_injective}
 use Rattle.std.proofs.lemmas.List.{get_or-map, length-map, map-append, take-map, take_more}
 use Rattle.std.proofs.lemmas.List.Sums.{count_by-le-length}
 use Rattle.text_bytes.specs.Names.{colon}
-use Rattle.text_tables.specs.Texts.{AreOnce, Text, is_among, same_text}
+use Rattle.text_bytes.specs.Text.{Text}
+use Rattle.text_tables.specs.Texts.{AreOnce, is_among, same_text}
 use Rattle.text_tables.specs.Pairs.{with_value}
 use Rattle.text_tallies.specs.Surplus.{times}
 use Rattle.text_tallies.specs.Tallies.{Tallies, left_of}

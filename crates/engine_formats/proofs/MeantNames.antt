@@ -3,7 +3,7 @@ use Rattle.std.proofs.Common.{◌≡◌, eqb, false, IfSome, List, [], ◌∷◌
 use Rattle.std.specs.List.{AllByRecursion, list_any}
 use Rattle.text_bytes.specs.Names.{newline}
 use Rattle.text_bytes.specs.Texts.{word_of}
-use Rattle.text_tables.specs.Texts.{Text}
+use Rattle.text_bytes.specs.Text.{Text}
 use Rattle.file_messages.specs.declared.message.MessageKind.{MessageKind}
 use Rattle.file_messages.specs.declared.message.MessageKind.TheVariants.{BadSyntax, CommaExpected, UnknownKey, PropertyWithoutMatch, MatchWithoutProperty}
 use Rattle.file_messages.specs.declared.message.MessageKind.TheVariants.{UnindentedLine, NoEquals, EmptyKey, PatternNotSupported, OperatorNotAllowed}

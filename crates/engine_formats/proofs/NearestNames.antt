@@ -4,7 +4,8 @@ use Rattle.std.specs.List.{All, AllByRecursion, find}
 use Rattle.std.proofs.Math.Nat.{min-eq_left, min-eq_right, min-le_left, min-le_right}
 use Rattle.std.proofs.lemmas.Bool.{leb-false, leb-true}
 use Rattle.std.proofs.lemmas.List.Elements.{All-from_recursion}
-use Rattle.text_tables.specs.Texts.{Text, is_among}
+use Rattle.text_bytes.specs.Text.{Text}
+use Rattle.text_tables.specs.Texts.{is_among}
 use Rattle.engine_formats.specs.Near.{distance, farthest, nearest, reach}
 
 -- as far as names may be is no farther than was said

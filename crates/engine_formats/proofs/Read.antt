@@ -10,7 +10,7 @@ use Rattle.json.specs.Tree.{HasNumbers, ItemsHaveNumbers, items_depth, items_tok
 use Rattle.json.proofs.Printed.Decimals.{IsNumber-decimal}
 use Rattle.json.proofs.Printed.Trees.{document-print}
 use Rattle.engine_formats.specs.Diagnostics.{DiagnosticValue}
-use Rattle.text_tables.specs.Texts.{Text}
+use Rattle.text_bytes.specs.Text.{Text}
 use Rattle.engine_formats.specs.Fingerprints.{FingerprintedValue, fingerprinted, fingerprinted_after, mark_of}
 use Rattle.text_json.specs.Values.{array_of, items_of}
 use Rattle.engine_formats.specs.Json.{gitlab_issue, gitlab_report, json_line, json_object}

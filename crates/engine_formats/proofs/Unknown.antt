@@ -2,7 +2,7 @@
 use Rattle.std.proofs.Common.{◌≡◌, ℕ, ◌+◌, ◌<◌, ◌≤◌, not, List, [], ◌∷◌, Option, Some, None, map, flat_map, drop, get_or, length, ap, refl, sym, ◌∙◌, add-one, drop-cons, drop_of_length-le}
 use Rattle.std.specs.Option.{option_or}
 use Rattle.std.proofs.lemmas.List.Folds.{find-append}
-use Rattle.text_tables.specs.Texts.{Text}
+use Rattle.text_bytes.specs.Text.{Text}
 use Rattle.engine_formats.specs.Ignored.{cut_at_commas, first_unknown, is_ignorable}
 
 -- the first of the parts of texts

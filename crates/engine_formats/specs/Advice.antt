@@ -1,5 +1,6 @@
 -- How to fix what diagnostics are about.
-use Rattle.std.specs.Prelude.{ℕ, List, codes}
+use Rattle.std.specs.Prelude.{codes}
+use Rattle.text_bytes.specs.Text.{Text}
 use Rattle.file_messages.specs.declared.message.MessageKind.{MessageKind}
 use Rattle.file_messages.specs.declared.message.MessageKind.TheVariants.{PropertyWithoutMatch, MatchWithoutProperty, UnindentedLine, NoEquals, EmptyKey}
 use Rattle.file_messages.specs.declared.message.MessageKind.TheVariants.{PatternNotSupported, BadSyntax, UnknownKey, OperatorNotAllowed, WrongAttribute}
@@ -21,7 +22,7 @@ use Rattle.engine_formats.specs.declared.remark.Remark.TheVariants as about
 use Rattle.engine_formats.specs.declared.remark.Remark.TheVariants.{Message, IdleIgnore, UnknownCode}
 
 -- the sentence on messages of a kind
-abbrev pub advice_on : MessageKind → List ℕ
+abbrev pub advice_on : MessageKind → Text
 advice_on PropertyWithoutMatch = codes "Put the match above its properties."
 advice_on MatchWithoutProperty = codes "Put the properties below the match, each after a space."
 advice_on UnindentedLine = codes "Put an empty line between two records."
@@ -62,7 +63,7 @@ advice_on LeadingComma = codes "Remove the comma before the first token."
 advice_on BlankBeforeComma = codes "Remove the blank before the comma."
 
 -- the sentence on a lint
-abbrev pub advice_on_lint : Lint → List ℕ
+abbrev pub advice_on_lint : Lint → Text
 advice_on_lint ModeNotOctal = codes "Write the mode in octal digits, such as 0660."
 advice_on_lint SignOfShell = codes "No shell runs the command: put /bin/sh -c before it, or remove the sign."
 advice_on_lint RelativeProgram = codes "Write the full path of the program."
@@ -92,7 +93,7 @@ advice_on_lint LinkOfNet = codes "Give the interface a NAME: it has no node, and
 advice_on_lint TagTooLate = codes "Give the file a name before 73-seat-late.rules, such as 70-mine.rules."
 
 -- the sentence on a remark
-abbrev pub advice_of : Remark → List ℕ
+abbrev pub advice_of : Remark → Text
 advice_of (Message kind) = advice_on kind
 advice_of (about.Lint lint) = advice_on_lint lint
 advice_of (about.DatabaseLint lint) = database_advice lint

@@ -1,5 +1,5 @@
 -- The codes of remarks.
-use Rattle.std.specs.Prelude.{ℕ, List, [], ◌∷◌, ◌++◌, Option, find, map, nat_eq}
+use Rattle.std.specs.Prelude.{List, [], ◌∷◌, ◌++◌, Option, find, map, nat_eq}
 use Rattle.file_messages.specs.declared.message.MessageKind.{MessageKind}
 use Rattle.file_messages.specs.declared.message.MessageKind.TheVariants.{PropertyWithoutMatch, MatchWithoutProperty, UnindentedLine, NoEquals, EmptyKey}
 use Rattle.file_messages.specs.declared.message.MessageKind.TheVariants.{PatternNotSupported, BadSyntax, UnknownKey, OperatorNotAllowed, WrongAttribute}
@@ -10,6 +10,7 @@ use Rattle.file_messages.specs.declared.message.MessageKind.TheVariants.{EmptyVa
 use Rattle.file_messages.specs.declared.message.MessageKind.TheVariants.{AssignExpected, UnknownAccount, FileAbandoned, CommaExpected}
 use Rattle.file_messages.specs.declared.message.MessageKind.TheVariants.{BlankExpected, ReadAsAssign, LabelUnused, LeadingComma, BlankBeforeComma}
 use Rattle.std.specs.Cmp.Lexicographic.{pointwise}
+use Rattle.text_bytes.specs.Text.{Text}
 use Rattle.engine_formats.specs.DatabaseLints.{database_lints}
 use Rattle.engine_formats.specs.LinkFaults.{link_faults}
 use Rattle.engine_formats.specs.Remarks.{code_of}
@@ -46,5 +47,5 @@ remarks =
     ++ map (λ fault. about.LinkFault fault) link_faults ++ IdleIgnore ∷ UnknownCode ∷ []
 
 -- the remark with a code, if there is one
-unfoldable pub remark_of : List ℕ → Option Remark
+unfoldable pub remark_of : Text → Option Remark
 remark_of code = find (λ remark. pointwise nat_eq (code_of remark) code) remarks

@@ -1,5 +1,6 @@
 -- The lints of a database, in words.
-use Rattle.std.specs.Prelude.{ℕ, List, [], ◌∷◌, codes}
+use Rattle.std.specs.Prelude.{List, [], ◌∷◌, codes}
+use Rattle.text_bytes.specs.Text.{Text}
 use Rattle.hwdb_lints.specs.declared.lint.DatabaseLint.{DatabaseLint}
 use Rattle.hwdb_lints.specs.declared.lint.DatabaseLint.TheVariants.{DigitCase, NoModalias, EndMissing, UnknownPrefix, MatchTwice, PropertyTwice, BlankAtEquals}
 use Rattle.hwdb_lints.specs.declared.lint.DatabaseLint.TheVariants.{OddName, BlankAtEnd, ByteOrderMark, CutWord, OpenSet, WrongValue}
@@ -11,7 +12,7 @@ database_lints =
     ∷ OddName ∷ BlankAtEnd ∷ ByteOrderMark ∷ CutWord ∷ OpenSet ∷ WrongValue ∷ []
 
 -- the code of a lint, and what it says
-abbrev pub database_heading : DatabaseLint → List ℕ
+abbrev pub database_heading : DatabaseLint → Text
 database_heading DigitCase = codes "D1 case of a digit that no modalias has"
 database_heading NoModalias = codes "D2 match that no modalias fits"
 database_heading EndMissing = codes "D3 end of a match is missing"
@@ -27,7 +28,7 @@ database_heading OpenSet = codes "D12 set without ]"
 database_heading WrongValue = codes "D13 value that the property does not take"
 
 -- the sentence on a lint
-abbrev pub database_advice : DatabaseLint → List ℕ
+abbrev pub database_advice : DatabaseLint → Text
 database_advice DigitCase = codes "Write the digits in capitals for usb:, pci: and the kernel's other buses, and in small letters for mouse: and the like."
 database_advice NoModalias = codes "Write the numbers with all their digits, in the order in which the modaliases of the prefix have them."
 database_advice EndMissing = codes "End the match with *, since modaliases go on behind it."

@@ -1,19 +1,20 @@
 -- Diagnostics, as contracts see them.
-use Rattle.std.specs.Prelude.{ℕ, List}
+use Rattle.std.specs.Prelude.{ℕ}
+use Rattle.text_bytes.specs.Text.{Text}
 use Rattle.engine_formats.specs.declared.diagnostic.Diagnostic.{Diagnostic}
 use Rattle.engine_formats.specs.declared.remark.Remark.{Remark}
 
 -- what is said about a place in a file
 pub record DiagnosticValue : Type 0 where
-  pub name : List ℕ
-  pub path : List ℕ
-  pub source : List ℕ
+  pub name : Text
+  pub path : Text
+  pub source : Text
   pub begins : ℕ
   pub line : ℕ
   pub column : ℕ
   pub end : ℕ
   pub remark : Remark
-  pub word : List ℕ
+  pub word : Text
 
 -- what a contract sees of a diagnostic
 abbrev pub shown : Diagnostic → DiagnosticValue

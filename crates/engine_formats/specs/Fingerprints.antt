@@ -2,7 +2,8 @@
 use Rattle.std.specs.Prelude.{ℕ, suc, List, [], ◌∷◌, ◌++◌, count_by, decimal, map, string_bytes}
 use Rattle.std.specs.Str.Lossy.{utf8_lossy}
 use Rattle.text_bytes.specs.Names.{colon}
-use Rattle.text_tables.specs.Texts.{Text, same_text}
+use Rattle.text_bytes.specs.Text.{Text}
+use Rattle.text_tables.specs.Texts.{same_text}
 use Rattle.engine_formats.specs.Diagnostics.{DiagnosticValue, shown}
 use Rattle.engine_formats.specs.Remarks.{code_of}
 use Rattle.engine_formats.specs.declared.fingerprints.Fingerprinted.{Fingerprinted}

@@ -1,5 +1,6 @@
 -- The formats that diagnostics can be written in.
-use Rattle.std.specs.Prelude.{ℕ, Bool, true, false, List, flat_map}
+use Rattle.std.specs.Prelude.{Bool, true, false, List, flat_map}
+use Rattle.text_bytes.specs.Text.{Text}
 use Rattle.engine_ends.specs.declared.line.Format.{Format}
 use Rattle.engine_ends.specs.declared.line.Format.TheVariants.{Plain, Gcc, Github, Gitlab, Json, Sarif, Human, HumanInColor}
 use Rattle.engine_formats.specs.Codes.{remarks}
@@ -11,7 +12,7 @@ use Rattle.engine_formats.specs.Lines.{gcc_line, plain_line}
 use Rattle.engine_formats.specs.Sarif.{sarif_log}
 
 -- diagnostics in a format, in their order: lines for each, or one report for all
-abbrev pub formatted : Format → List DiagnosticValue → List ℕ
+abbrev pub formatted : Format → List DiagnosticValue → Text
 formatted Plain diagnostics = flat_map plain_line diagnostics
 formatted Gcc diagnostics = flat_map gcc_line diagnostics
 formatted Github diagnostics = flat_map github_line diagnostics

@@ -1,6 +1,7 @@
 -- Diagnostics as JSON.
-use Rattle.std.specs.Prelude.{ℕ, List, [], ◌∷◌, ◌++◌, codes, map}
+use Rattle.std.specs.Prelude.{List, [], ◌∷◌, ◌++◌, codes, map}
 use Rattle.std.specs.Str.Lossy.{utf8_lossy}
+use Rattle.text_bytes.specs.Text.{Text}
 use Rattle.text_bytes.specs.Names.{newline}
 use Rattle.text_json.specs.Values.{array_of, number_value, object_of}
 use Rattle.engine_ends.specs.Places.{word_part}
@@ -14,7 +15,7 @@ use Rattle.engine_formats.specs.declared.remark.Severity.{Severity}
 use Rattle.engine_formats.specs.declared.remark.Severity.TheVariants.{Error, Warning}
 
 -- a text of a file, in which what is not UTF-8 becomes U+FFFD
-abbrev pub text_value : List ℕ → Json
+abbrev pub text_value : Text → Json
 text_value text = string (utf8_lossy text)
 
 -- a diagnostic as an object
@@ -31,11 +32,11 @@ json_object d = object_of (
     ∷ [])
 
 -- the line of a diagnostic: the object without blanks between its parts
-unfoldable pub json_line : DiagnosticValue → List ℕ
+unfoldable pub json_line : DiagnosticValue → Text
 json_line d = print (json_tokens (json_object d)) ++ newline ∷ []
 
 -- the word of GitLab for how severe something is
-abbrev pub gitlab_severity : Severity → List ℕ
+abbrev pub gitlab_severity : Severity → Text
 gitlab_severity Error = codes "major"
 gitlab_severity Warning = codes "minor"
 
@@ -57,5 +58,5 @@ gitlab_issue f =
     ∷ [])
 
 -- diagnostics as a report of code quality: an array of issues, on one line
-unfoldable pub gitlab_report : List DiagnosticValue → List ℕ
+unfoldable pub gitlab_report : List DiagnosticValue → Text
 gitlab_report ds = print (json_tokens (array_of (map gitlab_issue (fingerprinted ds)))) ++ newline ∷ []

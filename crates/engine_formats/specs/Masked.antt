@@ -1,5 +1,6 @@
 -- Texts for a terminal, without the characters of UTF-8 that it would obey.
-use Rattle.std.specs.Prelude.{ℕ, Bool, ◌==◌, ◌&&◌, nat_le, if◌then◌else◌, List, [], ◌∷◌}
+use Rattle.std.specs.Prelude.{ℕ, Bool, ◌==◌, ◌&&◌, nat_le, if◌then◌else◌, [], ◌∷◌}
+use Rattle.text_bytes.specs.Text.{Text}
 use Rattle.engine_formats.specs.Diagnostics.{DiagnosticValue}
 
 -- whether a byte is in a range, both ends included
@@ -16,12 +17,12 @@ masked_byte before last b =
     else b
 
 -- a text after two bytes, byte by byte
-abbrev pub masked_after : ℕ → ℕ → List ℕ → List ℕ
+abbrev pub masked_after : ℕ → ℕ → Text → Text
 masked_after before last [] = []
 masked_after before last (b ∷ text) = masked_byte before last b ∷ masked_after last b text
 
 -- a text, as long as it was, and each character as wide
-abbrev pub masked : List ℕ → List ℕ
+abbrev pub masked : Text → Text
 masked text = masked_after 0 0 text
 
 -- a diagnostic whose path and whose line are shown on a terminal

@@ -4,7 +4,8 @@ use Rattle.std.specs.Char.{is_ascii_alphabetic}
 use Rattle.std.specs.List.{list_any, prefix_len, starts_with}
 use Rattle.text_bytes.specs.Names.{dollar, equals}
 use Rattle.text_bytes.specs.Texts.{split_once, word_of}
-use Rattle.text_tables.specs.Texts.{Text, is_among}
+use Rattle.text_bytes.specs.Text.{Text}
+use Rattle.text_tables.specs.Texts.{is_among}
 use Rattle.file_messages.specs.declared.message.MessageKind.{MessageKind}
 use Rattle.file_messages.specs.declared.message.MessageKind.TheVariants.{UnknownKey, BadValue, BadSubstitution, UnknownBuiltin, BadAttributeSubstitution}
 use Rattle.rule_templates.specs.Names.{long_names}

@@ -1,5 +1,6 @@
 -- The colors of diagnostics on a terminal.
-use Rattle.std.specs.Prelude.{ℕ, Bool, true, false, List, [], ◌∷◌, codes}
+use Rattle.std.specs.Prelude.{ℕ, Bool, true, false, [], ◌∷◌, codes}
+use Rattle.text_bytes.specs.Text.{Text}
 use Rattle.engine_formats.specs.Remarks.{severity_of}
 use Rattle.engine_formats.specs.declared.paint.Paint.{Paint}
 use Rattle.engine_formats.specs.declared.paint.Paint.TheVariants.{Unpainted, Red, Yellow}
@@ -22,12 +23,12 @@ abbrev pub escape_code : ℕ
 escape_code = 27
 
 -- what a terminal takes as the start of a color: bold red and bold yellow
-abbrev pub paint_start : Paint → List ℕ
+abbrev pub paint_start : Paint → Text
 paint_start Unpainted = []
 paint_start Red = escape_code ∷ codes "[1;31m"
 paint_start Yellow = escape_code ∷ codes "[1;33m"
 
 -- what a terminal takes as its end
-abbrev pub paint_stop : Paint → List ℕ
+abbrev pub paint_stop : Paint → Text
 paint_stop Unpainted = []
 paint_stop color = escape_code ∷ codes "[0m"

@@ -1,5 +1,6 @@
 -- Where messages about a database are in their file.
 use Rattle.std.specs.Prelude.{ℕ, ◌+◌, ◌-◌, Bool, true, false, if◌then◌else◌, List, [], length, slice_index_or}
+use Rattle.text_bytes.specs.Text.{Text}
 use Rattle.text_bytes.specs.Lines.{NumberedLine}
 use Rattle.text_bytes.specs.Numbers.{capped}
 use Rattle.text_bytes.specs.Names.{hash}
@@ -11,17 +12,17 @@ use Rattle.engine_formats.specs.declared.placing.TextPlace.{TextPlace}
 
 -- a place in a line: the columns that it begins at and ends before, counted from 1, and the text there
 pub record Place : Type 0 where
-  pub source : List ℕ
+  pub source : Text
   pub column : ℕ
   pub end : ℕ
-  pub word : List ℕ
+  pub word : Text
 
 -- what a contract sees of a place
 abbrev pub shown_place : TextPlace → Place
 shown_place p = record { source = p.source.now; column = p.column; end = p.end; word = p.word.now }
 
 -- the text of the line with a number, counted from 1, and nothing if there is none
-abbrev pub line_numbered : List NumberedLine → ℕ → List ℕ
+abbrev pub line_numbered : List NumberedLine → ℕ → Text
 line_numbered lines number = (slice_index_or lines (number - 1) (record { number = 0; text = [] })).text
 
 -- whether messages of a kind are about a property, which follows blanks
@@ -33,11 +34,11 @@ is_about_property _ = false
 
 -- the text of a clean line that a message of a kind is about: a property without its leading blanks, and else the
 -- line
-abbrev pub reported_text : List ℕ → MessageKind → List ℕ
+abbrev pub reported_text : Text → MessageKind → Text
 reported_text clean kind = if is_about_property kind then unindented clean else clean
 
 -- where a message of a kind is in a line: at the text that it is about, which ends where the clean line does
-abbrev pub place_in : List ℕ → MessageKind → Place
+abbrev pub place_in : Text → MessageKind → Place
 place_in source kind =
     let clean = trimmed (up_to hash source) in
     let word = reported_text clean kind in

@@ -1,5 +1,6 @@
 -- What programs read in the formats that are made for them.
-use Rattle.std.specs.Prelude.{ℕ, ◌+◌, ◌*◌, ◌^◌, ◌<◌, Bool, not, ◌==◌, ◌||◌, if◌then◌else◌, List, [], ◌∷◌, drop, length, take_while}
+use Rattle.std.specs.Prelude.{ℕ, ◌+◌, ◌*◌, ◌^◌, ◌<◌, Bool, not, ◌==◌, ◌||◌, if◌then◌else◌, [], ◌∷◌, drop, length, take_while}
+use Rattle.text_bytes.specs.Text.{Text}
 use Rattle.text_bytes.specs.Escapes.{digit_value}
 use Rattle.text_bytes.specs.Names.{carriage_return, colon, comma, newline, percent}
 use Rattle.engine_formats.specs.Diagnostics.{DiagnosticValue}
@@ -13,7 +14,7 @@ pub record HasPlace (d : DiagnosticValue) : Type 0 where
   pub end : d.end < 2 ^ 32
 
 -- What GitHub reads in a command: a `%` and two digits are the byte of their number, and any other byte is itself.
-abbrev pub github_read : List ℕ → List ℕ
+abbrev pub github_read : Text → Text
 github_read [] = []
 github_read (b ∷ []) = b ∷ []
 github_read (b ∷ c ∷ []) = b ∷ c ∷ []
@@ -22,7 +23,7 @@ github_read (b ∷ high ∷ low ∷ rest) =
     else b ∷ github_read (high ∷ low ∷ rest)
 
 -- What a reader of SARIF takes from a message: of two braces in a row one.
-abbrev pub message_read : List ℕ → List ℕ
+abbrev pub message_read : Text → Text
 message_read [] = []
 message_read (b ∷ []) = b ∷ []
 message_read (b ∷ c ∷ rest) = if is_brace b then b ∷ message_read rest else b ∷ message_read (c ∷ rest)
@@ -36,5 +37,5 @@ abbrev pub ends_property : ℕ → Bool
 ends_property b = b == comma || b == colon || ends_line b
 
 -- the property after a name at the start of a text, up to what ends it
-abbrev pub property_at : List ℕ → List ℕ → List ℕ
+abbrev pub property_at : Text → Text → Text
 property_at name text = take_while (λ b. not (ends_property b)) (drop (length name) text)

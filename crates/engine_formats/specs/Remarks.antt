@@ -1,6 +1,7 @@
 -- What a diagnostic is about, in words.
-use Rattle.std.specs.Prelude.{ℕ, if◌then◌else◌, List, [], codes, unwrap_or}
+use Rattle.std.specs.Prelude.{if◌then◌else◌, [], codes, unwrap_or}
 use Rattle.std.specs.List.{list_any}
+use Rattle.text_bytes.specs.Text.{Text}
 use Rattle.text_bytes.specs.Names.{space}
 use Rattle.text_bytes.specs.Texts.{begins_with, split_once}
 use Rattle.rule_lints.specs.declared.lint.Lint.{Lint}
@@ -18,7 +19,7 @@ use Rattle.engine_formats.specs.declared.remark.Severity.{Severity}
 use Rattle.engine_formats.specs.declared.remark.Severity.TheVariants.{Error, Warning}
 
 -- the code of a lint, and what it says
-abbrev pub lint_heading : Lint → List ℕ
+abbrev pub lint_heading : Lint → Text
 lint_heading ModeNotOctal = codes "W1 mode is no octal number"
 lint_heading SignOfShell = codes "W2 sign of the shell, and no shell"
 lint_heading RelativeProgram = codes "W3 program without a path"
@@ -48,7 +49,7 @@ lint_heading LinkOfNet = codes "W26 link of a network device"
 lint_heading TagTooLate = codes "W27 tag uaccess in a late file"
 
 -- the code of a remark, and what it says
-abbrev pub remark_heading : Remark → List ℕ
+abbrev pub remark_heading : Remark → Text
 remark_heading (Message kind) = heading_of kind
 remark_heading (about.Lint lint) = lint_heading lint
 remark_heading (about.DatabaseLint lint) = database_heading lint
@@ -57,15 +58,15 @@ remark_heading IdleIgnore = codes "I1 nothing to ignore"
 remark_heading UnknownCode = codes "I2 unknown code"
 
 -- what comes before the first space of a remark's heading, and what comes after it
-unfoldable pub heading_parts : Remark → List ℕ × List ℕ
+unfoldable pub heading_parts : Remark → Text × Text
 heading_parts remark = unwrap_or (split_once space (remark_heading remark)) (remark_heading remark, [])
 
 -- the code of a remark
-abbrev pub code_of : Remark → List ℕ
+abbrev pub code_of : Remark → Text
 code_of remark = (heading_parts remark).0
 
 -- what a remark says, without its code
-abbrev pub text_of : Remark → List ℕ
+abbrev pub text_of : Remark → Text
 text_of remark = (heading_parts remark).1
 
 -- how severe a remark is, by the letter of its code: S, I, W and D are warnings, all others errors
@@ -73,6 +74,6 @@ abbrev pub severity_of : Remark → Severity
 severity_of remark = if list_any (λ letter. begins_with letter (remark_heading remark)) (codes "SIWD") then Warning else Error
 
 -- the word for how severe something is
-abbrev pub severity_word : Severity → List ℕ
+abbrev pub severity_word : Severity → Text
 severity_word Error = codes "error"
 severity_word Warning = codes "warning"

@@ -1,5 +1,6 @@
 -- Diagnostics as a log of static analysis, as SARIF 2.1.0 has it.
 use Rattle.std.specs.Prelude.{ℕ, ◌+◌, ◌-◌, not, ◌==◌, ◌||◌, Bool, if◌then◌else◌, List, [], ◌∷◌, ◌++◌, codes, count_by, flat_map, map, take}
+use Rattle.text_bytes.specs.Text.{Text}
 use Rattle.text_bytes.specs.Names.{close_brace, newline, open_brace}
 use Rattle.text_bytes.specs.Numbers.{capped}
 use Rattle.engine_ends.specs.Places.{word_part}
@@ -21,15 +22,15 @@ abbrev pub is_brace : ℕ → Bool
 is_brace b = b == open_brace || b == close_brace
 
 -- a byte of a message: a brace twice, any other byte as it is
-abbrev pub message_byte : ℕ → List ℕ
+abbrev pub message_byte : ℕ → Text
 message_byte b = if is_brace b then b ∷ b ∷ [] else b ∷ []
 
 -- a text as a message has it, byte by byte
-abbrev pub message_text : List ℕ → List ℕ
+abbrev pub message_text : Text → Text
 message_text text = flat_map message_byte text
 
 -- a message
-abbrev pub message_object : List ℕ → Json
+abbrev pub message_object : Text → Json
 message_object text = object_of ((codes "text", text_value (message_text text)) ∷ [])
 
 -- what a diagnostic can be about, which SARIF calls a rule: the code, what it says, how to fix it, and how severe it is
@@ -44,7 +45,7 @@ rule_object remark = object_of (
 
 -- a column of a line, counted in characters from 1, by the one that is counted in bytes; a byte that continues a
 -- character of UTF-8 is none
-abbrev pub character_column : List ℕ → ℕ → ℕ
+abbrev pub character_column : Text → ℕ → ℕ
 character_column source column = capped (count_by (λ b. not (continues b)) (take (column - 1) source) + 1)
 
 -- where in its file a diagnostic is
@@ -97,7 +98,7 @@ run_object remarks fs = object_of (
     ∷ [])
 
 -- where the schema of a log is
-abbrev pub schema : List ℕ
+abbrev pub schema : Text
 schema = codes "https://docs.oasis-open.org/sarif/sarif/v2.1.0/errata01/os/schemas/sarif-schema-2.1.0.json"
 
 -- a log of one run
@@ -109,5 +110,5 @@ log_object remarks fs = object_of (
     ∷ [])
 
 -- diagnostics as a log, on one line, with these remarks as its rules
-unfoldable pub sarif_log : List Remark → List DiagnosticValue → List ℕ
+unfoldable pub sarif_log : List Remark → List DiagnosticValue → Text
 sarif_log remarks ds = print (json_tokens (log_object remarks (fingerprinted ds))) ++ newline ∷ []

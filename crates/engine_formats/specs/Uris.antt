@@ -1,5 +1,6 @@
 -- Paths of files as references of RFC 3986.
-use Rattle.std.specs.Prelude.{ℕ, Bool, ◌==◌, ◌||◌, ◌&&◌, ◌/◌, ◌%◌, nat_le, if◌then◌else◌, List, [], ◌∷◌, ◌++◌, codes, flat_map}
+use Rattle.std.specs.Prelude.{ℕ, Bool, ◌==◌, ◌||◌, ◌&&◌, ◌/◌, ◌%◌, nat_le, if◌then◌else◌, [], ◌∷◌, ◌++◌, codes, flat_map}
+use Rattle.text_bytes.specs.Text.{Text}
 use Rattle.text_bytes.specs.Escapes.{hex_digit}
 use Rattle.text_bytes.specs.Names.{dot, minus, percent, slash, underscore}
 use Rattle.text_bytes.specs.Numbers.{is_digit}
@@ -15,13 +16,13 @@ abbrev pub is_kept : ℕ → Bool
 is_kept b = is_letter b || is_digit b || b == minus || b == dot || b == underscore || b == tilde || b == slash
 
 -- a byte of a path, by `%` and two hexadecimal digits if it does not stand for itself
-abbrev pub uri_byte : ℕ → List ℕ
+abbrev pub uri_byte : ℕ → Text
 uri_byte b = if is_kept b then b ∷ [] else percent ∷ hex_digit (b / 16) ∷ hex_digit (b % 16) ∷ []
 
 -- a path, byte by byte
-abbrev pub uri_path : List ℕ → List ℕ
+abbrev pub uri_path : Text → Text
 uri_path path = flat_map uri_byte path
 
 -- a path as a reference: that of a file of the system if it begins at the root, else one that is relative to what is checked
-abbrev pub uri_of : List ℕ → List ℕ
+abbrev pub uri_of : Text → Text
 uri_of path = if begins_with slash path then codes "file://" ++ uri_path path else uri_path path

@@ -1,8 +1,9 @@
 //! Laws that show the definitions cited by the other contracts to be right.
 //!
 //! Each function has an empty body, and its contract is a law of the definitions.
-ghost use Rattle.std.specs.Prelude.{◌≡◌, ℕ, ◌+◌, ◌-◌, ◌*◌, ◌^◌, ◌<◌, ◌≤◌, Bool, ◌==◌, false, if◌then◌else◌, List, [], ◌∷◌, ◌++◌, All, codes, length, map};
+ghost use Rattle.std.specs.Prelude.{◌≡◌, ◌+◌, ◌-◌, ◌*◌, ◌^◌, ◌<◌, ◌≤◌, Bool, ◌==◌, false, if◌then◌else◌, List, [], ◌∷◌, ◌++◌, All, codes, length, map};
 ghost use Rattle.std.specs.List.{list_any};
+ghost use Rattle.text_bytes.specs.Text.{Text};
 ghost use Rattle.text_bytes.specs.Lines.{lines, numbered_lines};
 ghost use Rattle.text_bytes.specs.Texts.{word_of};
 ghost use Rattle.text_bytes.specs.Names.{space};
@@ -55,15 +56,15 @@ pub fn messages_are_plain_diagnostics()
 
 /// No line ends in what a workflow command says, and neither does a property in its text.
 pub fn commands_end_nowhere_within()
-    ensures text { (said : List ℕ) → list_any ends_line (github_text said) ≡ false }
-    ensures property { (value : List ℕ) → list_any ends_property (github_property value) ≡ false }
+    ensures text { (said : Text) → list_any ends_line (github_text said) ≡ false }
+    ensures property { (value : Text) → list_any ends_property (github_property value) ≡ false }
 {}
 
 /// What a workflow command says is read back as it was, and so is a property; the path is the one by which the file
 /// was opened.
 pub fn commands_are_read_back()
-    ensures text { (said : List ℕ) → github_read (github_text said) ≡ said }
-    ensures property { (value : List ℕ) → github_read (github_property value) ≡ value }
+    ensures text { (said : Text) → github_read (github_text said) ≡ said }
+    ensures property { (value : Text) → github_read (github_property value) ≡ value }
     ensures path { (d : DiagnosticValue) → github_read (property_at (codes " file=") (github_place d)) ≡ d.path }
 {}
 

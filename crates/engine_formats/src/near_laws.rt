@@ -3,7 +3,8 @@
 //! Each function has an empty body, and its contract is a law of the definitions.
 ghost use Rattle.std.specs.Prelude.{◌≡◌, Bool, ◌<◌, ◌≤◌, ◌++◌, All, IfSome, List, [], ◌∷◌, None, Some, codes, false, true};
 ghost use Rattle.std.specs.List.{list_any};
-ghost use Rattle.text_tables.specs.Texts.{Text, is_among};
+ghost use Rattle.text_bytes.specs.Text.{Text};
+ghost use Rattle.text_tables.specs.Texts.{is_among};
 ghost use Rattle.file_messages.specs.declared.message.MessageKind.TheVariants.{BadSubstitution, BadValue, UnknownBuiltin, UnknownKey};
 ghost use Rattle.rule_parts.specs.Options.{is_known_option};
 ghost use Rattle.engine_formats.specs.Meant.{meant_as, option_names};

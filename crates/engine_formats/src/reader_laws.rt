@@ -1,8 +1,9 @@
 //! Laws of the formats for programs: they are read as they are meant.
 //!
 //! Each function has an empty body, and its contract is a law of the definitions.
-ghost use Rattle.std.specs.Prelude.{◌≡◌, ℕ, ◌^◌, ◌<◌, ◌==◌, false, List, [], ◌∷◌, ◌++◌, All, Some, codes, length, map};
+ghost use Rattle.std.specs.Prelude.{◌≡◌, ◌^◌, ◌<◌, ◌==◌, false, List, [], ◌∷◌, ◌++◌, All, Some, codes, length, map};
 ghost use Rattle.std.specs.List.{list_any};
+ghost use Rattle.text_bytes.specs.Text.{Text};
 ghost use Rattle.text_bytes.specs.Lines.{lines};
 ghost use Rattle.text_bytes.specs.Names.{colon, slash};
 ghost use Rattle.text_bytes.specs.Texts.{begins_with};
@@ -42,11 +43,11 @@ pub fn a_sarif_log_is_an_object()
 /// A message of a log is read back as it was, and so is a path: a reader of references takes `%` and two digits as a byte. Only a
 /// path that begins at the root has a scheme before it.
 pub fn logs_are_read_back()
-    ensures message { (text : List ℕ) → message_read (message_text text) ≡ text }
-    ensures path { (path : List ℕ) → All (λ b. b < 256) path → github_read (uri_path path) ≡ path }
-    ensures root { (path : List ℕ) → uri_of (slash ∷ path) ≡ codes "file://" ++ uri_path (slash ∷ path) }
-    ensures relative { (path : List ℕ) → begins_with slash path ≡ false → uri_of path ≡ uri_path path }
-    ensures scheme { (path : List ℕ) → All (λ b. b < 256) path → list_any (λ b. b == colon) (uri_path path) ≡ false }
+    ensures message { (text : Text) → message_read (message_text text) ≡ text }
+    ensures path { (path : Text) → All (λ b. b < 256) path → github_read (uri_path path) ≡ path }
+    ensures root { (path : Text) → uri_of (slash ∷ path) ≡ codes "file://" ++ uri_path (slash ∷ path) }
+    ensures relative { (path : Text) → begins_with slash path ≡ false → uri_of path ≡ uri_path path }
+    ensures scheme { (path : Text) → All (λ b. b < 256) path → list_any (λ b. b == colon) (uri_path path) ≡ false }
 {}
 
 /// No two diagnostics of a report have the same fingerprint, as a reader of the report sees it.

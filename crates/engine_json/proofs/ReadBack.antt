@@ -5,7 +5,7 @@ use Rattle.std.specs.Int.Signed.{mag}
 use Rattle.std.specs.List.{AllByRecursion}
 use Rattle.text_bytes.specs.Lines.{lines}
 use Rattle.text_bytes.specs.declared.profile.Profile.{Profile}
-use Rattle.text_tables.specs.Texts.{Text}
+use Rattle.text_bytes.specs.Text.{Text}
 use Rattle.text_tables.specs.Pairs.{Pair}
 use Rattle.json.specs.Json.{Json, document}
 use Rattle.json.specs.Print.{print}

@@ -1,6 +1,6 @@
 -- What is kept gives the values of an answer their sources.
 use Rattle.std.proofs.Common.{◌≡◌, List, None, ap}
-use Rattle.text_tables.specs.Texts.{Text}
+use Rattle.text_bytes.specs.Text.{Text}
 use Rattle.text_tables.specs.Pairs.{Pair}
 use Rattle.json.specs.Json.{Json}
 use Rattle.device_core.specs.Values.{EventValue}

@@ -5,7 +5,7 @@ ghost use Rattle.json.specs.Json.{Json, boolean, document, number};
 ghost use Rattle.json.specs.Print.{print};
 ghost use Rattle.json.specs.Tree.{json_tokens};
 ghost use Rattle.text_tables.specs.Pairs.{Pair};
-ghost use Rattle.text_tables.specs.Texts.{Text};
+ghost use Rattle.text_bytes.specs.Text.{Text};
 ghost use Rattle.text_json.specs.Told.{told, told_text};
 ghost use Rattle.text_json.specs.Values.{array_of, number_value, object_of};
 ghost use Rattle.rule_types.specs.Rules.{Rule};

@@ -2,7 +2,7 @@
 use Rattle.std.proofs.Common.{◌≡◌, ℕ, zero, suc, ◌<◌, Bool, false, cond, List, [], ◌∷◌, ◌++◌, Contains, flat_map, get_or, length, codes, is_some, arith, refl, sym, subst}
 use Rattle.std.proofs.lemmas.List.Elements.{Contains-append_left, Contains-append_right}
 use Rattle.text_tables.specs.Pairs.{Pair, value_of}
-use Rattle.text_tables.specs.Texts.{Text}
+use Rattle.text_bytes.specs.Text.{Text}
 use Rattle.eval_state.specs.Runs.{RunValue}
 use Rattle.eval_effects.specs.Changes.{Snapshot, added_run, changes, is_kept, item_changes, made_changes, removed_item, removed_runs, removed_text, run_changes, run_text, set_item, set_text}
 use Rattle.eval_effects.specs.Items.{is_present}

@@ -3,7 +3,7 @@ use Rattle.std.proofs.Common.{◌≡◌, ℕ, ◌==◌, false, cond, [], ◌∷�
 use Rattle.std.specs.List.{onto_first}
 use Rattle.text_bytes.specs.Lines.{lines}
 use Rattle.text_bytes.specs.Names.{newline}
-use Rattle.text_tables.specs.Texts.{Text}
+use Rattle.text_bytes.specs.Text.{Text}
 use Rattle.engine_lookups.specs.Outcomes.{after_messages, answered_from, lines_outcome}
 use Rattle.engine_lookups.proofs.LineLemmas.{onto}
 

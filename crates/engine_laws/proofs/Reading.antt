@@ -8,7 +8,7 @@ use Rattle.text_bytes.specs.Lines.{lines}
 use Rattle.text_bytes.specs.Names.{colon, newline, nul, space}
 use Rattle.text_bytes.specs.Numbers.{decimal_below}
 use Rattle.text_bytes.specs.Texts.{is_empty, split_once}
-use Rattle.text_tables.specs.Texts.{Text}
+use Rattle.text_bytes.specs.Text.{Text}
 use Rattle.device_core.specs.Blocks.{answers, before_device, behind_in, device, devices, event, groups, is_kind, numbers, pairs, programs, text_in, texts}
 use Rattle.device_core.specs.Faults.{block_gives, device_above, fault_unless, follows_command, given_below, given_by, given_with, has_nul, is_half, is_too_deep, is_wrong_number, is_wrong_path, lacks_action, lacks_device, line_fault, row_fault, unless_faulty}
 use Rattle.device_core.specs.Lines.{Row, begins_answer, form, kind_of, row_from, row_of}

@@ -6,7 +6,7 @@ use Rattle.std.proofs.lemmas.List.Elements.{filter-append}
 use Rattle.text_bytes.specs.Texts.{word_of}
 use Rattle.text_bytes.specs.declared.profile.Profile.{Profile}
 use Rattle.text_bytes.specs.declared.profile.Profile.TheVariants.{Manual, Udev}
-use Rattle.text_tables.specs.Texts.{Text}
+use Rattle.text_bytes.specs.Text.{Text}
 use Rattle.builtin_knowledge.specs.Knowledge.{Known}
 use Rattle.device_core.specs.Values.{EventValue}
 use Rattle.rule_types.specs.declared.part.Act.{Act}

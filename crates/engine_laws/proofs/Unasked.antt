@@ -1,6 +1,6 @@
 -- A line that asks for no more than the answers.
 use Rattle.std.proofs.Common.{◌≡◌, ℕ, Bool, false, not, ◌||◌, ◌==◌, cond, List, [], ◌∷◌, length, map, Result, Ok, Err, refl, ap, sym, ◌∙◌, rules, vec_len}
-use Rattle.text_tables.specs.Texts.{Text}
+use Rattle.text_bytes.specs.Text.{Text}
 use Rattle.device_core.specs.Values.{EventValue}
 use Rattle.engine_courses.specs.Asked.{unknown}
 use Rattle.builtin_knowledge.specs.Knowledge.{FilesFound}

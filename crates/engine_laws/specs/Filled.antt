@@ -1,7 +1,7 @@
 -- A question that is filled in, for laws: a block that asks a command and answers it.
 use Rattle.std.specs.Prelude.{[], ◌∷◌, ◌++◌, codes, None}
 use Rattle.text_bytes.specs.declared.profile.Profile.TheVariants.{Manual}
-use Rattle.text_tables.specs.Texts.{Text}
+use Rattle.text_bytes.specs.Text.{Text}
 use Rattle.device_core.specs.Values.{DeviceValue, EventValue}
 use Rattle.engine_courses.specs.Questions.{question_line}
 

@@ -3,7 +3,7 @@
 //! Each function here is empty: its contract is the law.
 ghost use Rattle.std.specs.Prelude.{◌≡◌, ◌∷◌, ◌++◌, [], Contains, codes, false, is_some, true};
 ghost use Rattle.text_tables.specs.Pairs.{Pair, value_of};
-ghost use Rattle.text_tables.specs.Texts.{Text};
+ghost use Rattle.text_bytes.specs.Text.{Text};
 ghost use Rattle.rule_types.specs.declared.part.Change.{Change};
 ghost use Rattle.eval_state.specs.Runs.{RunValue};
 ghost use Rattle.eval_state.specs.declared.note_kind.NoteKind.TheVariants as note_kind;

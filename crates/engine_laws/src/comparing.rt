@@ -2,7 +2,7 @@
 //!
 //! Each function here is empty: its contract is the law.
 ghost use Rattle.std.specs.Prelude.{◌≡◌, ◌++◌, Ok, codes};
-ghost use Rattle.text_tables.specs.Texts.{Text};
+ghost use Rattle.text_bytes.specs.Text.{Text};
 ghost use Rattle.builtin_knowledge.specs.Knowledge.{FilesFound};
 ghost use Rattle.device_core.specs.Values.{EventValue};
 ghost use Rattle.engine_ends.specs.EventLine.{event_line};

@@ -3,7 +3,7 @@
 //! Each function here is empty: its contract is the law.
 ghost use Rattle.std.specs.Prelude.{◌≡◌, ◌==◌, ◌∷◌, ◌++◌, [], ℕ, false};
 ghost use Rattle.text_bytes.specs.Names.{newline};
-ghost use Rattle.text_tables.specs.Texts.{Text};
+ghost use Rattle.text_bytes.specs.Text.{Text};
 ghost use Rattle.engine_lookups.specs.Outcomes.{lines_outcome};
 
 /// A last line without a newline is answered as it is with one.

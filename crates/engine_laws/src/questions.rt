@@ -3,7 +3,8 @@ ghost use Rattle.std.specs.Prelude.{◌≡◌, ◌↔◌, ◌≤◌, ◌&&◌, �
 ghost use Rattle.std.specs.List.{list_all, list_any};
 ghost use Rattle.text_bytes.specs.Texts.{word_of};
 ghost use Rattle.text_bytes.specs.declared.profile.Profile.TheVariants.{Manual, Udev};
-ghost use Rattle.text_tables.specs.Texts.{AreOnce, Text, is_among};
+ghost use Rattle.text_bytes.specs.Text.{Text};
+ghost use Rattle.text_tables.specs.Texts.{AreOnce, is_among};
 ghost use Rattle.text_tables.specs.Pairs.{value_of};
 ghost use Rattle.builtin_knowledge.specs.Knowledge.{Known};
 ghost use Rattle.rule_templates.specs.Template as templates;

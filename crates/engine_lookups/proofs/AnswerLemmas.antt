@@ -4,7 +4,7 @@ use Rattle.std.proofs.lemmas.Bool.Decides.{nat_tests}
 use Rattle.std.proofs.lemmas.List.{append-nil}
 use Rattle.std.proofs.lemmas.Grind.{flat_map-append}
 use Rattle.text_bytes.specs.Names.{newline}
-use Rattle.text_tables.specs.Texts.{Text}
+use Rattle.text_bytes.specs.Text.{Text}
 use Rattle.engine_ends.specs.Delivery.{RunOutcome}
 use Rattle.engine_lookups.specs.Outcomes.{after_answer, answered_from, is_too_long, most_bytes, too_long_line}
 use Rattle.engine_lookups.specs.Taking.{Leads}

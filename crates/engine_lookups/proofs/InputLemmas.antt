@@ -5,7 +5,7 @@ use Rattle.std.proofs.lemmas.List.{append-nil, take-append-le}
 use Rattle.std.proofs.lemmas.Grind.{flat_map-append}
 use Rattle.std.proofs.Math.Seq.{take-length}
 use Rattle.text_bytes.specs.Lines.{lines}
-use Rattle.text_tables.specs.Texts.{Text}
+use Rattle.text_bytes.specs.Text.{Text}
 use Rattle.device_core.specs.RunBlocks.{newline_count}
 use Rattle.engine_ends.specs.Reported.{followed_by, led_by, NoneLeft}
 use Rattle.engine_ends.specs.Counts.{Counts}

@@ -5,7 +5,7 @@ use Rattle.std.proofs.lemmas.List.{append-nil}
 use Rattle.std.proofs.lemmas.List.Sums.{sum_by-append, sum_by-cons, count_by-le-length}
 use Rattle.text_bytes.specs.Names.{newline}
 use Rattle.text_bytes.specs.Lines.{lines}
-use Rattle.text_tables.specs.Texts.{Text}
+use Rattle.text_bytes.specs.Text.{Text}
 use Rattle.device_core.specs.RunBlocks.{newline_count}
 use Rattle.engine_sessions.specs.Turns.{joined}
 use Rattle.engine_lookups.specs.Runs.{ended_lines, unended}

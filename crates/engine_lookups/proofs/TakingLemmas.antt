@@ -4,7 +4,7 @@ use Rattle.std.proofs.lemmas.List.{append-nil, take_more, take-append-drop}
 use Rattle.std.proofs.lemmas.Grind.{flat_map-append}
 use Rattle.text_bytes.specs.Names.{newline}
 use Rattle.text_bytes.specs.Lines.{lines}
-use Rattle.text_tables.specs.Texts.{Text}
+use Rattle.text_bytes.specs.Text.{Text}
 use Rattle.device_core.specs.RunBlocks.{newline_count}
 use Rattle.engine_ends.specs.Sinks.{HandsOn, SinkState}
 use Rattle.engine_sessions.specs.Serves.{WritesOut}

@@ -1,6 +1,6 @@
 -- What `query -` does, by the database that it opens.
 use Rattle.std.specs.Prelude.{ℕ, Result, Ok, Err}
-use Rattle.text_tables.specs.Texts.{Text}
+use Rattle.text_bytes.specs.Text.{Text}
 use Rattle.engine_ends.specs.declared.line.Line.{Line}
 use Rattle.engine_ends.specs.Delivery.{RunOutcome}
 use Rattle.engine_ends.specs.Streams.{Streams}

@@ -1,7 +1,7 @@
 -- For proofs only, no reader has to believe it: what is read of an input in turns, and how that ends.
 use Rattle.std.specs.Prelude.{◌≡◌, ℕ, ◌+◌, ◌⊎◌, Bool, true, false, List, [], ◌++◌, Option, Some, Result, Ok, Err, flat_map, length}
 use Rattle.text_bytes.specs.Lines.{lines}
-use Rattle.text_tables.specs.Texts.{Text}
+use Rattle.text_bytes.specs.Text.{Text}
 use Rattle.engine_ends.specs.Reported.{followed_by, led_by, NoneLeft}
 use Rattle.engine_ends.specs.Counts.{Counts}
 use Rattle.engine_ends.specs.Sources.{SourceFails, SourceState}

@@ -1,7 +1,7 @@
 -- For proofs only, no reader has to believe it: how lines are taken byte by byte and answered, and where that stops.
 use Rattle.std.specs.Prelude.{◌≡◌, ℕ, ◌+◌, ◌≤◌, Bool, true, false, List, [], ◌∷◌, ◌++◌, flat_map, length}
 use Rattle.text_bytes.specs.Lines.{lines}
-use Rattle.text_tables.specs.Texts.{Text}
+use Rattle.text_bytes.specs.Text.{Text}
 use Rattle.device_core.specs.RunBlocks.{newline_count}
 use Rattle.engine_ends.specs.Sinks.{BreaksOff, SinkState}
 use Rattle.engine_sessions.specs.Serves.{WritesOut}

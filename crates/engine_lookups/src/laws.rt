@@ -3,7 +3,7 @@ ghost use Rattle.std.specs.Prelude.{◌≡◌, ◌+◌, List, false, true, [], �
 ghost use Rattle.std.specs.List.{AllByRecursion};
 ghost use Rattle.text_bytes.specs.Names.{newline};
 ghost use Rattle.file_messages.specs.declared.message.Message.{Message};
-ghost use Rattle.text_tables.specs.Texts.{Text};
+ghost use Rattle.text_bytes.specs.Text.{Text};
 ghost use Rattle.hwdb_lookup.specs.declared.entry.Entry.{Entry};
 ghost use Rattle.device_core.specs.RunBlocks.{newline_count};
 ghost use Rattle.engine_ends.specs.declared.line.Line.{Line};

@@ -4,7 +4,8 @@ use Rattle.std.specs.List.{count_by}
 use Rattle.text_bytes.specs.declared.source_file.SourceFile.{SourceFile}
 use Rattle.file_messages.specs.Messages.{is_style}
 use Rattle.file_messages.specs.declared.message.Message.{Message}
-use Rattle.text_tables.specs.Texts.{Text, is_among}
+use Rattle.text_bytes.specs.Text.{Text}
+use Rattle.text_tables.specs.Texts.{is_among}
 use Rattle.engine_ends.specs.Delivery.{RunOutcome}
 use Rattle.engine_reports.specs.Messages.{message_lines}
 
@@ -17,7 +18,7 @@ abbrev pub bad_count : List SourceFile → List Text → ℕ
 bad_count files names = count_by (λ f. is_among names f.name) files
 
 -- the line that counts files: all of them, and those that are bad
-unfoldable pub summary_line : ℕ → ℕ → List ℕ
+unfoldable pub summary_line : ℕ → ℕ → Text
 summary_line all bad = decimal all ++ codes " files checked, " ++ decimal (all - bad) ++ codes " good, " ++ decimal bad ++ codes " bad\n"
 
 -- 0 if no file is bad, else 1

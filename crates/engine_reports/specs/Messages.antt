@@ -1,5 +1,6 @@
 -- The lines of messages: `FILE:LINE: CODE TEXT: WORD`.
-use Rattle.std.specs.Prelude.{ℕ, List, [], ◌∷◌, ◌++◌, codes, flat_map}
+use Rattle.std.specs.Prelude.{List, [], ◌∷◌, ◌++◌, codes, flat_map}
+use Rattle.text_bytes.specs.Text.{Text}
 use Rattle.text_bytes.specs.Names.{newline}
 use Rattle.engine_ends.specs.Places.{place_of, word_part}
 use Rattle.file_messages.specs.declared.message.Message.{Message}
@@ -14,7 +15,7 @@ use Rattle.file_messages.specs.declared.message.MessageKind.TheVariants.{AssignE
 use Rattle.file_messages.specs.declared.message.MessageKind.TheVariants.{BlankExpected, ReadAsAssign, LabelUnused, LeadingComma, BlankBeforeComma}
 
 -- the code of a kind of message, and what it says
-abbrev pub heading_of : MessageKind → List ℕ
+abbrev pub heading_of : MessageKind → Text
 heading_of PropertyWithoutMatch = codes "H1 property without a match"
 heading_of MatchWithoutProperty = codes "H2 match without a property"
 heading_of UnindentedLine = codes "H3 unindented line after properties"
@@ -55,9 +56,9 @@ heading_of LeadingComma = codes "S5 comma before the first token"
 heading_of BlankBeforeComma = codes "S6 blank before a comma"
 
 -- the line of a message
-unfoldable pub message_line : Message → List ℕ
+unfoldable pub message_line : Message → Text
 message_line message = place_of message.file message.line ++ heading_of message.kind ++ word_part message.word ++ newline ∷ []
 
 -- the lines of messages, in their order
-abbrev pub message_lines : List Message → List ℕ
+abbrev pub message_lines : List Message → Text
 message_lines messages = flat_map message_line messages

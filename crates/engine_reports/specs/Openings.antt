@@ -1,6 +1,6 @@
 -- What comes before the first answer to an event: the messages, and what events are answered by.
 use Rattle.std.specs.Prelude.{false, if◌then◌else◌, List, [], ◌++◌, Option, Some, None, Result, Ok, Err}
-use Rattle.text_tables.specs.Texts.{Text}
+use Rattle.text_bytes.specs.Text.{Text}
 use Rattle.file_messages.specs.declared.message.Message.{Message}
 use Rattle.text_bytes.specs.declared.profile.Profile.{Profile}
 use Rattle.text_bytes.specs.declared.source_file.SourceFile.{SourceFile}

@@ -2,7 +2,8 @@
 ghost use Rattle.std.specs.Prelude.{◌≡◌, [], if◌then◌else◌, ◌<◌, ◌≤◌, ◌++◌, length, map, IfOk, OnOk, decimal};
 ghost use Rattle.engine_reports.specs.Checks.{bad_count, files_said, summary_line, verify_status};
 ghost use Rattle.engine_reports.specs.Reports.{said};
-ghost use Rattle.text_tables.specs.Texts.{Text, is_among};
+ghost use Rattle.text_bytes.specs.Text.{Text};
+ghost use Rattle.text_tables.specs.Texts.{is_among};
 
 use crate::report::Report;
 use file_messages::Message;

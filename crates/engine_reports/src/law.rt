@@ -1,6 +1,6 @@
 //! Why an index has one meaning.
 ghost use Rattle.std.specs.Prelude.{◌≡◌, Option, Result};
-ghost use Rattle.text_tables.specs.Texts.{Text};
+ghost use Rattle.text_bytes.specs.Text.{Text};
 ghost use Rattle.index_reading.specs.declared.fault.IndexFault.{IndexFault};
 ghost use Rattle.index_reading.specs.Contents.{Contents};
 ghost use Rattle.engine_reports.specs.Indexes.{Opens};

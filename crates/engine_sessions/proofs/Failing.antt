@@ -1,7 +1,7 @@
 -- How a call fails, by why its block is not answered.
 use Rattle.std.proofs.Common.{◌≡◌, ℕ, true, false, [], ◌∷◌, ◌++◌, take, refl, ap, sym, ◌∙◌, subst}
 use Rattle.std.proofs.lemmas.List.{append-nil}
-use Rattle.text_tables.specs.Texts.{Text}
+use Rattle.text_bytes.specs.Text.{Text}
 use Rattle.device_core.specs.Runs.{complete_runs}
 use Rattle.device_core.specs.Splits.{Split, BeginsTooLong, SplitFailsBy}
 use Rattle.device_core.specs.declared.splitter.SplitFault.{SplitFault}

@@ -4,7 +4,7 @@ use Rattle.std.specs.Option.{option_to_list}
 use Rattle.text_bytes.specs.Lines.{lines}
 use Rattle.text_bytes.specs.declared.profile.Profile.{Profile}
 use Rattle.text_bytes.specs.declared.profile.Profile.TheVariants.{Manual}
-use Rattle.text_tables.specs.Texts.{Text}
+use Rattle.text_bytes.specs.Text.{Text}
 use Rattle.device_core.specs.Blocks.{devices, event}
 use Rattle.device_core.specs.Faults.{block_gives, given_below, given_by, given_with, line_fault, unless_faulty}
 use Rattle.device_core.specs.Lines.{Row, row_of}

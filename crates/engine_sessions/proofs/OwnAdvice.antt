@@ -2,7 +2,8 @@
 use Rattle.std.proofs.Common.{◌≡◌, ◌||◌, false, List, [], ◌∷◌, Option, Some, refl, ap, sym, ◌∙◌}
 use Rattle.std.specs.List.{find}
 use Rattle.text_bytes.specs.Texts.{is_empty}
-use Rattle.text_tables.specs.Texts.{Text, same_text}
+use Rattle.text_bytes.specs.Text.{Text}
+use Rattle.text_tables.specs.Texts.{same_text}
 use Rattle.device_core.specs.declared.faults.BlockFaultKind.{BlockFaultKind}
 use Rattle.device_core.specs.declared.faults.BlockFaultKind.TheVariants.{NoAction, NoDevice, Letter, Twice, Path, Number, Pair, Nul, TooLong, TooDeep, Memory}
 use Rattle.engine_sessions.specs.BlockAdvice.{advice_on, wrong_in}

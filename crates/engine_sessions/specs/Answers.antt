@@ -1,6 +1,6 @@
 -- The answers to the blocks of an input.
 use Rattle.std.specs.Prelude.{ℕ, ◌+◌, ◌-◌, ◌^◌, List, [], ◌∷◌, Option, Some, None, Result, Ok, Err, min}
-use Rattle.text_tables.specs.Texts.{Text}
+use Rattle.text_bytes.specs.Text.{Text}
 use Rattle.device_core.specs.Runs.{runs}
 use Rattle.device_core.specs.Values.{EventValue}
 use Rattle.device_core.specs.Faults.{block_gives}

@@ -1,10 +1,11 @@
 -- What people are told about a faulty block: what is wrong with the line, and what to do about it.
-use Rattle.std.specs.Prelude.{ℕ, List, codes}
+use Rattle.std.specs.Prelude.{codes}
+use Rattle.text_bytes.specs.Text.{Text}
 use Rattle.device_core.specs.declared.faults.BlockFaultKind.{BlockFaultKind}
 use Rattle.device_core.specs.declared.faults.BlockFaultKind.TheVariants.{NoAction, NoDevice, Letter, Twice, Path, Number, Pair, Nul, TooLong, TooDeep, Memory}
 
 -- what is wrong with a line, in a sentence
-abbrev pub wrong_in : BlockFaultKind → List ℕ
+abbrev pub wrong_in : BlockFaultKind → Text
 wrong_in NoAction = codes "The first line of a block is C: and the action, and this one is not."
 wrong_in NoDevice = codes "No P: above this line says which device it is about, or the block ends without one."
 wrong_in Letter = codes "The line is not a letter of a block, a colon, one space and a text."
@@ -18,7 +19,7 @@ wrong_in TooDeep = codes "The line begins the 65th device, and a block has at mo
 wrong_in Memory = codes "There was no memory for the block."
 
 -- what to do about it, in a sentence
-abbrev pub advice_on : BlockFaultKind → List ℕ
+abbrev pub advice_on : BlockFaultKind → Text
 advice_on NoAction = codes "Begin the block with a line such as C: add, and end the block before it with an empty line."
 advice_on NoDevice = codes "Put P: and the path of the device below C:, above all that is about the device."
 advice_on Letter = codes "Write one of the letters in devdry-events(1), and no comment; devdry-capture prints whole blocks."

@@ -2,7 +2,7 @@
 -- memory is reported by a line of its own, not by this one.
 use Rattle.std.specs.Prelude.{ℕ, Bool, if◌then◌else◌, [], ◌∷◌, ◌++◌, codes, decimal}
 use Rattle.text_bytes.specs.Names.{newline}
-use Rattle.text_tables.specs.Texts.{Text}
+use Rattle.text_bytes.specs.Text.{Text}
 use Rattle.device_core.specs.declared.faults.BlockFault.{BlockFault}
 use Rattle.device_core.specs.FaultTexts.{kind_text}
 use Rattle.device_core.specs.declared.faults.BlockFaultKind.{BlockFaultKind}

@@ -1,7 +1,7 @@
 -- The outcome of an input whose answers are findings: whether any answer that was sent has a byte, and the status for
 -- that.
 use Rattle.std.specs.Prelude.{◌≡◌, ℕ, ◌⊎◌, ◌==◌, Bool, if◌then◌else◌, List, Result, Ok, Err, IfOk, length}
-use Rattle.text_tables.specs.Texts.{Text}
+use Rattle.text_bytes.specs.Text.{Text}
 use Rattle.device_core.specs.Values.{EventValue}
 use Rattle.engine_ends.specs.Streams.{Streams}
 use Rattle.engine_ends.specs.Delivery.{RunOutcome}

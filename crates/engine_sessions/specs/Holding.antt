@@ -1,6 +1,6 @@
 -- Serves inner proofs only: how a session's fields depend on one another, and what its helpers return.
 use Rattle.std.specs.Prelude.{◌≡◌, ℕ, ◌≤◌, Bool, true, false, [], ◌∷◌, Err, Option, Some, None, length}
-use Rattle.text_tables.specs.Texts.{Text}
+use Rattle.text_bytes.specs.Text.{Text}
 use Rattle.device_core.specs.Runs.{complete_runs, rest_of}
 use Rattle.device_core.specs.RunBlocks.{most_bytes}
 use Rattle.device_core.specs.Splits.{Split}

@@ -1,6 +1,6 @@
 -- Which blocks of an input are known once its first bytes were read.
 use Rattle.std.specs.Prelude.{Bool, true, false, List, [], ◌∷◌, ◌++◌, if◌then◌else◌}
-use Rattle.text_tables.specs.Texts.{Text}
+use Rattle.text_bytes.specs.Text.{Text}
 use Rattle.device_core.specs.Runs.{complete_runs, rest_of, runs}
 use Rattle.device_core.specs.RunBlocks.{is_too_long}
 

@@ -1,6 +1,6 @@
 -- The outcome of answers to an input, after messages.
 use Rattle.std.specs.Prelude.{ℕ, Bool, ◌++◌, Option, Some, None, length}
-use Rattle.text_tables.specs.Texts.{Text}
+use Rattle.text_bytes.specs.Text.{Text}
 use Rattle.device_core.specs.Values.{EventValue}
 use Rattle.device_core.specs.declared.faults.BlockFault.{BlockFault}
 use Rattle.engine_ends.specs.Delivery.{RunOutcome}

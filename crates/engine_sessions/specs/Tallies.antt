@@ -1,7 +1,7 @@
 -- What a run says after its answers, by all events of its input.
 use Rattle.std.specs.Prelude.{◌≡◌, ℕ, ◌⊎◌, ◌==◌, Bool, if◌then◌else◌, List, [], ◌++◌, Option, Some, None, Result, Ok, Err, IfOk, filter_map, map}
 use Rattle.text_bytes.specs.declared.profile.Profile.{Profile}
-use Rattle.text_tables.specs.Texts.{Text}
+use Rattle.text_bytes.specs.Text.{Text}
 use Rattle.device_core.specs.Runs.{runs}
 use Rattle.device_core.specs.Values.{EventValue, by_profile}
 use Rattle.device_core.specs.Faults.{block_gives}

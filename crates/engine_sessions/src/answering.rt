@@ -1,6 +1,6 @@
 //! What answers events.
 ghost use Rattle.std.specs.Prelude.{◌≡◌, IfOk};
-ghost use Rattle.text_tables.specs.Texts.{Text};
+ghost use Rattle.text_bytes.specs.Text.{Text};
 ghost use Rattle.device_core.specs.Values.{EventValue};
 
 use device_core::Event;

@@ -2,7 +2,7 @@
 //! Each law is the contract of a function with an empty body.
 ghost use Rattle.std.specs.Prelude.{◌≡◌, List, ℕ, true, false, [], ◌∷◌, ◌++◌, map, Ok, Err, Option, Some, None};
 ghost use Rattle.text_bytes.specs.declared.profile.Profile.TheVariants.{Manual};
-ghost use Rattle.text_tables.specs.Texts.{Text};
+ghost use Rattle.text_bytes.specs.Text.{Text};
 ghost use Rattle.device_core.specs.Runs.{rest_of};
 ghost use Rattle.device_core.specs.Values.{EventValue};
 ghost use Rattle.device_core.specs.Faults.{block_gives};

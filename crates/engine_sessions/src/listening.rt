@@ -1,6 +1,6 @@
 //! What is told an input as it is read, and what is told its events.
 ghost use Rattle.std.specs.Prelude.{◌≡◌, ◌∷◌, [], List, IfOk, OnOk};
-ghost use Rattle.text_tables.specs.Texts.{Text};
+ghost use Rattle.text_bytes.specs.Text.{Text};
 ghost use Rattle.device_core.specs.Values.{EventValue};
 ghost use Rattle.engine_sessions.specs.Tallies.{IsTold};
 

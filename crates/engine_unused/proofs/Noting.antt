@@ -3,7 +3,7 @@ use Rattle.std.proofs.Common.{◌≡◌, ℕ, zero, suc, ◌+◌, ◌<◌, ◌�
 use Rattle.std.proofs.lemmas.List.{map_more}
 use Rattle.std.proofs.lemmas.List.Elements.{filter_map-append}
 use Rattle.text_links.specs.Kernels.{last_component}
-use Rattle.text_tables.specs.Texts.{Text}
+use Rattle.text_bytes.specs.Text.{Text}
 use Rattle.rule_types.specs.Rules.{Rule}
 use Rattle.eval_courses.specs.declared.fate.Fate.{Fate}
 use Rattle.engine_unused.specs.Inner.{line_at, with_fate_at}

@@ -7,7 +7,7 @@ use Rattle.device_core.specs.Values.{EventValue}
 use Rattle.eval_courses.specs.Fates.{fates}
 use Rattle.eval_courses.specs.declared.fate.Fate.{Fate}
 use Rattle.eval_courses.specs.declared.fate.Fate.TheVariants.{Passed}
-use Rattle.text_tables.specs.Texts.{Text}
+use Rattle.text_bytes.specs.Text.{Text}
 use Rattle.engine_unused.specs.Unused.{lines_by}
 use Rattle.engine_unused.specs.Laws.{after, fates_of}
 use Rattle.engine_unused.specs.Rows.{Row, counted, unreached, with_fate, with_fates}

@@ -1,7 +1,7 @@
 -- Serves inner proofs only: the counts of rules after one more event for the rule at a place, and the line on the rule at a
 -- place.
 use Rattle.std.specs.Prelude.{ℕ, zero, suc, List, [], ◌∷◌}
-use Rattle.text_tables.specs.Texts.{Text}
+use Rattle.text_bytes.specs.Text.{Text}
 use Rattle.rule_types.specs.Rules.{Rule}
 use Rattle.eval_courses.specs.declared.fate.Fate.{Fate}
 use Rattle.engine_unused.specs.Rows.{Row, with_fate}

@@ -1,7 +1,7 @@
 -- Properties that lines give, set one after another.
 use Rattle.std.proofs.Common.{◌≡◌, List, [], ◌∷◌, Option, Some, None, refl}
 use Rattle.std.specs.List.{cons_option, filter_map}
-use Rattle.text_tables.specs.Texts.{Text}
+use Rattle.text_bytes.specs.Text.{Text}
 use Rattle.text_tables.specs.Pairs.{Pair}
 use Rattle.eval_state.specs.Properties.{properties_set}
 use Rattle.eval_acts.specs.Printed.{line_property}

@@ -5,7 +5,7 @@ use Rattle.std.specs.Prelude.{Bool, Option, Some, None, nat_lt}
 use Rattle.std.specs.Option.{option_and_then}
 use Rattle.text_bytes.specs.declared.profile.Profile.{Profile}
 use Rattle.text_bytes.specs.declared.profile.Profile.TheVariants.{Manual, Udev}
-use Rattle.text_tables.specs.Texts.{Text}
+use Rattle.text_bytes.specs.Text.{Text}
 use Rattle.rule_templates.specs.Template.{Parts as Template}
 use Rattle.rule_templates.specs.declared.piece.Piece.{Piece}
 use Rattle.rule_templates.specs.declared.piece.Piece.TheVariants as piece

@@ -2,7 +2,7 @@
 use Rattle.std.specs.Prelude.{Bool, false, List, [], ◌∷◌, Option, Some, None}
 use Rattle.text_bytes.specs.declared.profile.Profile.{Profile}
 use Rattle.text_bytes.specs.declared.profile.Profile.TheVariants.{Manual, Udev}
-use Rattle.text_tables.specs.Texts.{Text}
+use Rattle.text_bytes.specs.Text.{Text}
 use Rattle.text_core.specs.Fnmatch.{fnmatch_items}
 use Rattle.text_core.specs.declared.reading.Reading.TheVariants.{Exact}
 use Rattle.builtin_knowledge.specs.Knowledge.{Known}

@@ -1,7 +1,7 @@
 -- Serves proofs alone: what an act leaves, and the text of a command without substitutions.
 use Rattle.std.specs.Prelude.{nat_lt, Bool, List, [], ◌∷◌, length, Option, Some, None, if◌then◌else◌}
 use Rattle.std.specs.Option.{option_and_then}
-use Rattle.text_tables.specs.Texts.{Text}
+use Rattle.text_bytes.specs.Text.{Text}
 use Rattle.rule_templates.specs.declared.piece.Piece.{Piece}
 use Rattle.rule_templates.specs.declared.piece.Piece.TheVariants.{Plain}
 use Rattle.rule_types.specs.declared.part.ActKind.{ActKind}

@@ -4,7 +4,7 @@ use Rattle.std.specs.List.{slice_split, suffix_len}
 use Rattle.std.specs.Option.{option_and_then}
 use Rattle.text_bytes.specs.Names.{equals, hash, is_blank}
 use Rattle.text_bytes.specs.Texts.{begins_with, ends_in, is_empty, split_once, unindented}
-use Rattle.text_tables.specs.Texts.{Text}
+use Rattle.text_bytes.specs.Text.{Text}
 use Rattle.text_tables.specs.Pairs.{Pair}
 use Rattle.eval_commands.specs.Words.{is_quote}
 use Rattle.eval_rendering.specs.Pieces.{ends_line}

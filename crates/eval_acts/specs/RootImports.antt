@@ -2,7 +2,7 @@
 use Rattle.std.specs.Prelude.{ℕ, ◌==◌, ◌||◌, nat_le, Bool, true, false, if◌then◌else◌, List, length, filter_map, Option, Some, None}
 use Rattle.std.specs.List.{slice_split}
 use Rattle.text_bytes.specs.Names.{nul}
-use Rattle.text_tables.specs.Texts.{Text}
+use Rattle.text_bytes.specs.Text.{Text}
 use Rattle.text_tables.specs.Pairs.{Pair}
 use Rattle.builtin_knowledge.specs.Knowledge.{Known}
 use Rattle.builtin_knowledge.specs.declared.root_files.RootFile.{RootFile}

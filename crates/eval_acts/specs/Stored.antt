@@ -1,7 +1,8 @@
 -- IMPORT{db} of udev's, by what it had stored about the event device before the event.
 use Rattle.std.specs.Prelude.{Bool, not, ◌||◌, if◌then◌else◌, codes, Option, None}
 use Rattle.text_bytes.specs.Texts.{is_empty}
-use Rattle.text_tables.specs.Texts.{Text, same_text}
+use Rattle.text_bytes.specs.Text.{Text}
+use Rattle.text_tables.specs.Texts.{same_text}
 use Rattle.text_tables.specs.Pairs.{value_of}
 use Rattle.device_core.specs.Values.{EventValue}
 use Rattle.rule_types.specs.declared.types.ImportType.TheVariants.{Db}

@@ -1,7 +1,7 @@
 -- The attributes that a text asks for and that a dry run does not read.
 use Rattle.std.specs.Prelude.{if◌then◌else◌, List, [], ◌∷◌, ◌++◌, Option, Some, None}
 use Rattle.std.specs.Option.{option_or}
-use Rattle.text_tables.specs.Texts.{Text}
+use Rattle.text_bytes.specs.Text.{Text}
 use Rattle.device_core.specs.Values.{EventValue}
 use Rattle.rule_templates.specs.Template.{Parts as Template}
 use Rattle.rule_templates.specs.declared.piece.Piece.{Piece}

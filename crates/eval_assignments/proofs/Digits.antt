@@ -4,7 +4,7 @@ use Rattle.std.specs.List.{list_all, prefix_len}
 use Rattle.std.proofs.lemmas.Bool.{and_from, le-leb, lt-ltb, ne_eqb, or_from}
 use Rattle.text_bytes.specs.Names.{is_blank}
 use Rattle.text_bytes.specs.Texts.{unindented}
-use Rattle.text_tables.specs.Texts.{Text}
+use Rattle.text_bytes.specs.Text.{Text}
 use Rattle.rule_types.specs.Topics.{is_mode, is_octal, mode_of, octal}
 use Rattle.eval_assignments.specs.Modes.{four_digits}
 

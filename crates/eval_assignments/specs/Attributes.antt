@@ -1,7 +1,7 @@
 -- The attribute that an assignment writes for udev, by its name.
 use Rattle.std.specs.Prelude.{ℕ, zero, suc, ◌-◌, nat_lt, if◌then◌else◌, ◌++◌, length, take, Option, Some, None, option_map}
 use Rattle.std.specs.Option.{option_and_then}
-use Rattle.text_tables.specs.Texts.{Text}
+use Rattle.text_bytes.specs.Text.{Text}
 use Rattle.text_tables.specs.Pairs.{with_value}
 use Rattle.rule_types.specs.declared.keys.Key.TheVariants as key
 use Rattle.rule_types.specs.Rules.{Rule}

@@ -4,7 +4,8 @@ use Rattle.std.specs.Prelude.{length, filter, find, flat_map, codes, Option, Som
 use Rattle.std.specs.List.{list_any, join_with_byte, slice_split}
 use Rattle.text_bytes.specs.Names.{carriage_return, newline, slash, space, tab}
 use Rattle.text_bytes.specs.Texts.{begins_with, is_empty}
-use Rattle.text_tables.specs.Texts.{Text, same_text}
+use Rattle.text_bytes.specs.Text.{Text}
+use Rattle.text_tables.specs.Texts.{same_text}
 use Rattle.rule_types.specs.Rules.{Rule}
 use Rattle.rule_types.specs.declared.roles.AssignOperator.{AssignOperator}
 use Rattle.eval_state.specs.Scenes.{noted}

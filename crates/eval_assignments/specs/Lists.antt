@@ -3,7 +3,8 @@ use Rattle.std.specs.Prelude.{not, ◌==◌, if◌then◌else◌, List, [], ◌�
 use Rattle.std.specs.List.{slice_split}
 use Rattle.text_bytes.specs.Names.{space}
 use Rattle.text_bytes.specs.Texts.{is_empty}
-use Rattle.text_tables.specs.Texts.{Text, with_texts, without_text}
+use Rattle.text_bytes.specs.Text.{Text}
+use Rattle.text_tables.specs.Texts.{with_texts, without_text}
 use Rattle.rule_types.specs.declared.roles.AssignOperator.{AssignOperator}
 use Rattle.rule_types.specs.declared.roles.AssignOperator.TheVariants.{Assign, Add, Remove, AssignFinal}
 

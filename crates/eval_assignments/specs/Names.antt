@@ -5,7 +5,8 @@ use Rattle.text_bytes.specs.Numbers.{decimal_below}
 use Rattle.text_bytes.specs.declared.profile.Profile.{Profile}
 use Rattle.text_bytes.specs.declared.profile.Profile.TheVariants.{Manual, Udev}
 use Rattle.text_tables.specs.Pairs.{value_of}
-use Rattle.text_tables.specs.Texts.{Text, same_text}
+use Rattle.text_bytes.specs.Text.{Text}
+use Rattle.text_tables.specs.Texts.{same_text}
 use Rattle.device_core.specs.Values.{DeviceValue}
 use Rattle.eval_state.specs.Texts.{or_empty}
 use Rattle.eval_assignments.specs.Escapes.{with_underscores}

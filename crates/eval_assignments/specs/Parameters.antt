@@ -4,7 +4,7 @@ use Rattle.std.specs.List.{join_with_byte}
 use Rattle.text_bytes.specs.Names.{dot, slash}
 use Rattle.text_bytes.specs.Texts.{begins_with, skip_while}
 use Rattle.text_tables.specs.Pairs.{with_value}
-use Rattle.text_tables.specs.Texts.{Text}
+use Rattle.text_bytes.specs.Text.{Text}
 use Rattle.rule_types.specs.declared.keys.Key.TheVariants as key
 use Rattle.rule_types.specs.Rules.{Rule}
 use Rattle.eval_rendering.specs.Bounds.{most_path_bytes, within}

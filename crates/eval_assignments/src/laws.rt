@@ -4,7 +4,7 @@
 ghost use Rattle.std.specs.Prelude.{◌≡◌, ◌<◌, ◌^◌, ◌++◌, ◌==◌, ℕ, true, false, Some, codes};
 ghost use Rattle.std.specs.List.{All, slice_split};
 ghost use Rattle.text_bytes.specs.Names.{slash};
-ghost use Rattle.text_tables.specs.Texts.{Text};
+ghost use Rattle.text_bytes.specs.Text.{Text};
 ghost use Rattle.rule_types.specs.Topics.{mode_of};
 ghost use Rattle.eval_assignments.specs.Links.{is_barred, is_step, plain_link};
 ghost use Rattle.eval_assignments.specs.Modes.{four_digits};

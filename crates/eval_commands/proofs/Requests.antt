@@ -8,7 +8,8 @@ use Rattle.text_bytes.specs.Names.{equals, minus}
 use Rattle.text_bytes.specs.Texts.{begins_with, first, split_once}
 use Rattle.text_bytes.specs.declared.profile.Profile.{Profile}
 use Rattle.text_bytes.specs.declared.profile.Profile.TheVariants.{Manual, Udev}
-use Rattle.text_tables.specs.Texts.{Text, same_text}
+use Rattle.text_bytes.specs.Text.{Text}
+use Rattle.text_tables.specs.Texts.{same_text}
 use Rattle.eval_commands.specs.Builtins.{builtin, builtin_of, builtin_of_words, hwdb_asked}
 use Rattle.eval_commands.specs.Hwdb.{filter_option, hwdb_of, is_option, is_unknown, last_value, operands, prefix_option, subsystem_option, value_beside, value_in}
 use Rattle.eval_commands.specs.Unquoted.{asked_by, asked_of, first_and_others, no_request, other_name, other_of, request_from, spaced_words, with_cut, with_modalias, with_option, with_value, with_word}

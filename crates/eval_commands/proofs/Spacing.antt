@@ -5,7 +5,7 @@ use Rattle.std.specs.Prelude.{Bool, ◌||◌, Option, Some, None}
 use Rattle.std.specs.List.{list_any, prefix_len}
 use Rattle.text_bytes.specs.Names.{space}
 use Rattle.text_bytes.specs.declared.profile.Profile.TheVariants.{Manual}
-use Rattle.text_tables.specs.Texts.{Text}
+use Rattle.text_bytes.specs.Text.{Text}
 use Rattle.eval_commands.specs.Unquoted.{first_and_others, is_inside, spaced_words, words_from}
 use Rattle.eval_commands.specs.Words.{Cut, command_words, finished_words, is_quote, took}
 use Rattle.eval_commands.specs.declared.words.Place.TheVariants.{Between, InWord}

@@ -2,7 +2,8 @@
 use Rattle.std.specs.Prelude.{if◌then◌else◌, nat_lt, List, [], ◌∷◌, ◌++◌, drop, length, Option, Some, None, codes}
 use Rattle.text_bytes.specs.declared.profile.Profile.{Profile}
 use Rattle.text_bytes.specs.declared.profile.Profile.TheVariants.{Manual, Udev}
-use Rattle.text_tables.specs.Texts.{Text, same_text}
+use Rattle.text_bytes.specs.Text.{Text}
+use Rattle.text_tables.specs.Texts.{same_text}
 use Rattle.rule_types.specs.Builtins as udev
 use Rattle.rule_types.specs.declared.builtins.Builtin as known
 use Rattle.rule_types.specs.declared.builtins.Builtin.TheVariants as known_as

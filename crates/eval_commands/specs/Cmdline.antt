@@ -4,7 +4,7 @@ use Rattle.std.specs.List.{list_any}
 use Rattle.std.specs.Option.{option_or}
 use Rattle.text_bytes.specs.Names.{equals, minus, underscore}
 use Rattle.text_bytes.specs.Texts.{is_empty}
-use Rattle.text_tables.specs.Texts.{Text}
+use Rattle.text_bytes.specs.Text.{Text}
 use Rattle.eval_commands.specs.Words.{udev_words}
 
 -- a byte of a name as it is compared: `-` and `_` are the same

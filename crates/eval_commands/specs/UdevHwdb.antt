@@ -5,7 +5,7 @@ use Rattle.std.specs.List.{starts_with}
 use Rattle.std.specs.Option.{option_and_then, option_or, unwrap_or}
 use Rattle.text_bytes.specs.Names.{equals, minus}
 use Rattle.text_bytes.specs.Texts.{begins_with, is_empty, split_once}
-use Rattle.text_tables.specs.Texts.{Text}
+use Rattle.text_bytes.specs.Text.{Text}
 use Rattle.eval_commands.specs.Hwdb.{is_bad_filter, pattern_of}
 use Rattle.eval_commands.specs.declared.hwdb.Hwdb.{Hwdb}
 use Rattle.eval_commands.specs.declared.udev_hwdb.Given.{Given}

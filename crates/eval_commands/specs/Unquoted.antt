@@ -6,7 +6,8 @@ use Rattle.text_bytes.specs.Names.{equals, space}
 use Rattle.text_bytes.specs.Texts.{split_once}
 use Rattle.text_bytes.specs.declared.profile.Profile.{Profile}
 use Rattle.text_bytes.specs.declared.profile.Profile.TheVariants.{Manual, Udev}
-use Rattle.text_tables.specs.Texts.{Text, same_text}
+use Rattle.text_bytes.specs.Text.{Text}
+use Rattle.text_tables.specs.Texts.{same_text}
 use Rattle.eval_commands.specs.Hwdb.{is_option, prefix_option, subsystem_option}
 use Rattle.eval_commands.specs.Words.{is_quote}
 use Rattle.eval_commands.specs.declared.hwdb.Hwdb.{Hwdb}

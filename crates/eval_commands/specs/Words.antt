@@ -4,7 +4,7 @@ use Rattle.text_bytes.specs.Names.{space, single_quote, double_quote}
 use Rattle.text_bytes.specs.declared.profile.Profile.{Profile}
 use Rattle.text_bytes.specs.declared.profile.Profile.TheVariants.{Manual, Udev}
 use Rattle.rule_templates.specs.Integers.{is_separator}
-use Rattle.text_tables.specs.Texts.{Text}
+use Rattle.text_bytes.specs.Text.{Text}
 use Rattle.eval_commands.specs.declared.words.Place.{Place}
 use Rattle.eval_commands.specs.declared.words.Place.TheVariants.{Between, InWord, Quoted}
 

@@ -1,6 +1,6 @@
 //! A law of what `hwdb` is asked, the contract of a function with an empty body.
 ghost use Rattle.std.specs.Prelude.{◌≡◌, Some, None};
-ghost use Rattle.text_tables.specs.Texts.{Text};
+ghost use Rattle.text_bytes.specs.Text.{Text};
 ghost use Rattle.eval_commands.specs.UdevHwdb.{asked_by};
 ghost use Rattle.eval_commands.specs.declared.udev_hwdb.Given.{Given};
 

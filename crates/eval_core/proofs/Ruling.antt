@@ -8,7 +8,8 @@ use Rattle.std.proofs.lemmas.List.Quantifiers.{position-Some}
 use Rattle.std.proofs.lemmas.Option.{slice_get-map, slice_get-get_or}
 use Rattle.text_bytes.specs.Names.{is_whitespace}
 use Rattle.text_bytes.specs.declared.profile.Profile.TheVariants.{Manual}
-use Rattle.text_tables.specs.Texts.{Text, same_text}
+use Rattle.text_bytes.specs.Text.{Text}
+use Rattle.text_tables.specs.Texts.{same_text}
 use Rattle.text_tables.specs.Pairs.{value_of}
 use Rattle.text_core.specs.Choices.{choice_fits}
 use Rattle.text_core.specs.declared.item.Item.{Item}

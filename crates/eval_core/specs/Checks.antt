@@ -1,7 +1,8 @@
 -- Serves inner proofs only: what is seen of an event before its rules run, and which rules this excludes.
 use Rattle.std.specs.Prelude.{ℕ, ◌+◌, ◌==◌, Bool, true, false, not, List, [], ◌∷◌, map, position, slice_get, Option, Some, None, option_map}
 use Rattle.std.specs.Option.{option_or}
-use Rattle.text_tables.specs.Texts.{Text, same_text}
+use Rattle.text_bytes.specs.Text.{Text}
+use Rattle.text_tables.specs.Texts.{same_text}
 use Rattle.text_tables.specs.Pairs.{value_of}
 use Rattle.text_core.specs.declared.item.Item.{Item}
 use Rattle.rule_types.specs.declared.roles.MatchOperator.{MatchOperator}

@@ -1,6 +1,6 @@
 -- Serves inner proofs only: rules laid out for evaluation.
 use Rattle.std.specs.Prelude.{◌≡◌, ℕ, List, map}
-use Rattle.text_tables.specs.Texts.{Text}
+use Rattle.text_bytes.specs.Text.{Text}
 use Rattle.rule_types.specs.Rules.{Rule}
 use Rattle.rule_jumps.specs.Passed.{skipped}
 use Rattle.eval_core.specs.Courses.{course_of}

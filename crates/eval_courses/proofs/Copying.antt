@@ -2,7 +2,8 @@
 use Rattle.std.proofs.Common.{◌≡◌, Bool, true, false, List, [], ◌∷◌, cond, refl, ap, sym, ◌∙◌, true≢false}
 use Rattle.std.specs.Cmp.Lexicographic.{bytes_decides}
 use Rattle.std.specs.List.{AllByRecursion, IsDistinct}
-use Rattle.text_tables.specs.Texts.{Text, same_text, AreOnce}
+use Rattle.text_bytes.specs.Text.{Text}
+use Rattle.text_tables.specs.Texts.{same_text, AreOnce}
 use Rattle.text_tables.specs.Pairs.{Pair, names, with_value, with_values}
 
 -- of two texts that are not the same the second is not the same as the first

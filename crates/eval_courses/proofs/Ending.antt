@@ -1,7 +1,7 @@
 -- How a course ends.
 use Rattle.std.proofs.Common.{◌≡◌, ◌↔◌, Bool, true, false, cond, List, [], ◌∷◌, ◌++◌, Option, Some, codes, map, nat_lt, get_or, refl, ap, sym, ◌∙◌, true≢false}
 use Rattle.std.specs.Prelude.{unwrap_or}
-use Rattle.text_tables.specs.Texts.{Text}
+use Rattle.text_bytes.specs.Text.{Text}
 use Rattle.builtin_knowledge.specs.Knowledge.{Known}
 use Rattle.rule_types.specs.Rules.{Rule}
 use Rattle.eval_state.specs.declared.scene.Scene.{Scene}

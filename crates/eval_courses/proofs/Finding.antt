@@ -1,7 +1,7 @@
 -- What is reported for a search, by which device meets all of the matches.
 use Rattle.std.proofs.Common.{◌≡◌, ℕ, zero, suc, ◌-◌, ◌<◌, Bool, true, false, cond, List, [], ◌∷◌, ◌++◌, length, map, filter, Option, Some, None, codes, append_assoc, arith, refl, ap, sym, ◌∙◌, true≢false}
 use Rattle.std.specs.List.{list_all, list_any, position, range_with_len}
-use Rattle.text_tables.specs.Texts.{Text}
+use Rattle.text_bytes.specs.Text.{Text}
 use Rattle.device_core.specs.Values.{chain}
 use Rattle.rule_types.specs.declared.part.UpMatch.{UpMatch}
 use Rattle.eval_state.specs.declared.state.State.{State}

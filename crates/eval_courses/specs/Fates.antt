@@ -1,6 +1,6 @@
 -- What became of each rule at an event: whether it was reached, and which of its keys stopped it.
 use Rattle.std.specs.Prelude.{if◌then◌else◌, List, [], ◌∷◌, ◌++◌, map, length, Option, None}
-use Rattle.text_tables.specs.Texts.{Text}
+use Rattle.text_bytes.specs.Text.{Text}
 use Rattle.builtin_knowledge.specs.Knowledge.{Known}
 use Rattle.rule_types.specs.Rules.{Rule}
 use Rattle.rule_types.specs.declared.part.UpMatch.{UpMatch}

@@ -1,7 +1,7 @@
 -- Serves inner proofs only: what is known about an act before it is done, what a match looks at as it is borrowed,
 -- and what is reported and asked moment by moment.
 use Rattle.std.specs.Prelude.{ℕ, ◌+◌, Bool, List, [], ◌∷◌, ◌++◌, map, option_map, codes}
-use Rattle.text_tables.specs.Texts.{Text}
+use Rattle.text_bytes.specs.Text.{Text}
 use Rattle.text_tables.specs.Pairs.{Pair}
 use Rattle.rule_types.specs.declared.part.Act.{Act}
 use Rattle.eval_state.specs.declared.scene.Scene.{Scene}

@@ -1,7 +1,7 @@
 -- How a key of a rule is written: `KEY{attribute}==i"value"`.
 use Rattle.std.specs.Prelude.{Bool, true, false, [], ◌∷◌, ◌++◌, None, codes}
 use Rattle.text_bytes.specs.Names.{double_quote}
-use Rattle.text_tables.specs.Texts.{Text}
+use Rattle.text_bytes.specs.Text.{Text}
 use Rattle.rule_types.specs.Written.{attribute_of_plain, attribute_of_up, key_of_plain, key_of_up}
 use Rattle.rule_types.specs.WrittenParts.{attribute_of_act_kind, key_of_act_kind}
 use Rattle.rule_types.specs.declared.keys.Key.TheVariants as key

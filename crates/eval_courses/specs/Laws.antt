@@ -1,6 +1,6 @@
 -- What holds for courses, by the outcome of their rules.
 use Rattle.std.specs.Prelude.{List, [], ◌∷◌, Option, Some, None}
-use Rattle.text_tables.specs.Texts.{Text}
+use Rattle.text_bytes.specs.Text.{Text}
 
 -- the last of texts, if there is one
 abbrev pub last_of : List Text → Option Text

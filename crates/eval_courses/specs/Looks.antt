@@ -1,7 +1,7 @@
 -- What a match met: whether it holds, and what it looked at.
 use Rattle.std.specs.Prelude.{Bool, true, false, List, [], ◌∷◌, ◌++◌, Option, Some, None, codes, flat_map}
 use Rattle.text_bytes.specs.Names.{space}
-use Rattle.text_tables.specs.Texts.{Text}
+use Rattle.text_bytes.specs.Text.{Text}
 use Rattle.rule_types.specs.declared.part.Comparison.{Comparison}
 use Rattle.rule_types.specs.declared.part.PlainMatch.{PlainMatch}
 use Rattle.eval_state.specs.declared.state.State.{State}

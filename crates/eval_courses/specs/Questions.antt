@@ -5,7 +5,8 @@ use Rattle.text_bytes.specs.Names.{newline, nul}
 use Rattle.text_bytes.specs.Texts.{is_empty}
 use Rattle.text_bytes.specs.declared.profile.Profile.{Profile}
 use Rattle.text_bytes.specs.declared.profile.Profile.TheVariants.{Manual, Udev}
-use Rattle.text_tables.specs.Texts.{Text, with_texts}
+use Rattle.text_bytes.specs.Text.{Text}
+use Rattle.text_tables.specs.Texts.{with_texts}
 use Rattle.text_tables.specs.Pairs.{value_of}
 use Rattle.builtin_knowledge.specs.Knowledge.{Known}
 use Rattle.rule_types.specs.Rules.{Rule}

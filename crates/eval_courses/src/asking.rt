@@ -22,7 +22,7 @@ struct Asked {
 
 impl Model for Asked {
     ghost use Rattle.std.specs.Prelude.{List};
-    ghost use Rattle.text_tables.specs.Texts.{Text};
+    ghost use Rattle.text_bytes.specs.Text.{Text};
 
     ghost Value = { List Text };
 

@@ -1,6 +1,6 @@
 //! What holds for courses, whatever the rule. Each function here is empty: its contract is the law.
 ghost use Rattle.std.specs.Prelude.{◌≡◌, ◌↔◌, ◌∷◌, ◌++◌, Bool, ℕ, List, Option, Some, codes, length, true, false};
-ghost use Rattle.text_tables.specs.Texts.{Text};
+ghost use Rattle.text_bytes.specs.Text.{Text};
 ghost use Rattle.builtin_knowledge.specs.Knowledge.{Known};
 ghost use Rattle.rule_types.specs.declared.part.UpMatch.{UpMatch};
 ghost use Rattle.rule_types.specs.Rules as rules;

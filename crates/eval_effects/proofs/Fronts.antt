@@ -1,6 +1,6 @@
 -- RUNs that two lists begin with are neither added nor removed.
 use Rattle.std.proofs.Common.{◌≡◌, suc, ◌+◌, ◌||◌, Bool, true, false, cond, List, [], ◌∷◌, ◌++◌, drop, flat_map, codes, refl, ap, sym, ◌∙◌, arith}
-use Rattle.text_tables.specs.Texts.{Text}
+use Rattle.text_bytes.specs.Text.{Text}
 use Rattle.eval_state.specs.Runs.{RunValue, same_run}
 use Rattle.eval_effects.specs.Changes.{added_run, is_kept, removed_run, run_text}
 use Rattle.eval_effects.specs.Inner.{same_front}

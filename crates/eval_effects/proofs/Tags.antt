@@ -1,7 +1,8 @@
 -- The tags that were not removed, one by one.
 use Rattle.std.proofs.Common.{◌≡◌, Bool, true, false, cond, not, ◌||◌, List, [], ◌∷◌, ◌++◌, flat_map, codes, refl, ap, sym, ◌∙◌}
 use Rattle.std.specs.Cmp.Lexicographic.{bytes_decides}
-use Rattle.text_tables.specs.Texts.{Text, is_among, same_text, without_text}
+use Rattle.text_bytes.specs.Text.{Text}
+use Rattle.text_tables.specs.Texts.{is_among, same_text, without_text}
 use Rattle.eval_assignments.specs.Lists.{without_texts}
 use Rattle.eval_effects.specs.Inner.{tag_item}
 use Rattle.eval_effects.specs.Items.{item_name, text_items}

@@ -3,7 +3,8 @@ use Rattle.std.specs.Prelude.{ℕ, ◌&&◌, if◌then◌else◌, Bool, List, []
 use Rattle.std.specs.List.{list_any, prefix_len, zip}
 use Rattle.text_bytes.specs.Names.{equals, space}
 use Rattle.text_bytes.specs.Texts.{is_empty, split_once}
-use Rattle.text_tables.specs.Texts.{Text, same_text}
+use Rattle.text_bytes.specs.Text.{Text}
+use Rattle.text_tables.specs.Texts.{same_text}
 use Rattle.text_tables.specs.Pairs.{Pair, value_of}
 use Rattle.rule_types.specs.Names.{run_name}
 use Rattle.rule_types.specs.declared.part.Change.{Change}

@@ -2,7 +2,8 @@
 use Rattle.std.specs.Prelude.{ℕ, List, [], ◌∷◌, if◌then◌else◌, codes, reverse}
 use Rattle.std.specs.List.{prefix_len, zip}
 use Rattle.text_tables.specs.Pairs.{Pair, with_values}
-use Rattle.text_tables.specs.Texts.{Text, is_among}
+use Rattle.text_bytes.specs.Text.{Text}
+use Rattle.text_tables.specs.Texts.{is_among}
 use Rattle.eval_state.specs.Runs.{RunValue, same_run}
 use Rattle.eval_effects.specs.Items.{item_name}
 

@@ -2,7 +2,7 @@
 use Rattle.std.specs.Prelude.{◌∷◌, ◌++◌, Option, option_map, codes, decimal}
 use Rattle.text_bytes.specs.Escapes.{escape_text}
 use Rattle.text_bytes.specs.Names.{colon}
-use Rattle.text_tables.specs.Texts.{Text}
+use Rattle.text_bytes.specs.Text.{Text}
 use Rattle.rule_types.specs.WrittenParts.{attribute_of_change, key_of_change}
 use Rattle.rule_types.specs.Rules.{Rule}
 use Rattle.rule_types.specs.declared.keys.Key.{Key}

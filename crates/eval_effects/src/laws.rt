@@ -1,7 +1,8 @@
 //! What is true of the texts about what assignments did.
 //!
 //! Each function here is empty: its contract is the law.
-ghost use Rattle.std.specs.Prelude.{◌≡◌, ◌<◌, ◌≤◌, ℕ, All, List, find, length, option_map};
+ghost use Rattle.std.specs.Prelude.{◌≡◌, ◌<◌, ◌≤◌, All, List, find, length, option_map};
+ghost use Rattle.text_bytes.specs.Text.{Text};
 ghost use Rattle.rule_types.specs.Rules.{Rule};
 ghost use Rattle.eval_state.specs.Finals.{is_final};
 ghost use Rattle.eval_state.specs.declared.finals.FinalKey.{FinalKey};
@@ -27,5 +28,5 @@ pub fn notes_say_what_is_left_out()
 /// A text of at most 200 bytes is read back from how it is shown, so that no two of these are shown alike.
 #[tactic(auto, using(crate::proofs::ReadBack::shown_read_back))]
 pub fn shown_texts_are_read_back()
-    ensures { (text : List ℕ) → All (λ b. b < 256) text → length text ≤ 200 → read_back (shown text) ≡ text }
+    ensures { (text : Text) → All (λ b. b < 256) text → length text ≤ 200 → read_back (shown text) ≡ text }
 {}

@@ -2,12 +2,12 @@
 use Rattle.std.proofs.Common.{◌≡◌, ℕ, ◌+◌, ◌≤◌, nat_le, Bool, true, false, ◌==◌, List, [], ◌∷◌, ◌++◌, length, Option, Some, None, is_some, ◌||◌, ap, codes, if◌then◌else◌, refl, arith}
 use Rattle.std.proofs.lemmas.Bool.{leb-true}
 use Rattle.std.proofs.lemmas.List.Sums.{sum_by-append, sum_by-cons}
-use Rattle.std.specs.List.{slice_get}
 use Rattle.text_bytes.specs.Names.{slash}
 use Rattle.text_bytes.specs.Texts.{begins_with}
 use Rattle.text_bytes.specs.declared.profile.Profile.{Profile}
 use Rattle.text_bytes.specs.declared.profile.Profile.TheVariants.{Manual, Udev}
-use Rattle.text_tables.specs.Texts.{Text, same_text}
+use Rattle.text_bytes.specs.Text.{Text}
+use Rattle.text_tables.specs.Texts.{same_text}
 use Rattle.text_tables.specs.Pairs.{Pair, value_of}
 use Rattle.text_core.specs.Choices.{choice_fits}
 use Rattle.text_core.specs.Fnmatch.{fnmatch_items}
@@ -28,7 +28,7 @@ use Rattle.rule_types.specs.declared.types.ImportType.{ImportType}
 use Rattle.rule_types.specs.declared.types.ImportType.TheVariants as import_of
 use Rattle.rule_types.specs.Rules.{Rule}
 use Rattle.device_core.specs.Values.{AnswerValue, DeviceValue, EventValue}
-use Rattle.eval_laws.specs.DeviceWeights.{device_weight, devices_weight, event_weight, pair_weight, pairs_weight}
+use Rattle.eval_laws.specs.DeviceWeights.{event_weight, pair_weight, pairs_weight}
 use Rattle.eval_state.specs.Chains.{device_at}
 use Rattle.eval_rendering.specs.Bounds.{most_command_bytes, most_path_bytes}
 use Rattle.eval_rendering.specs.declared.rendered.Rendered.{Rendered}
@@ -38,11 +38,10 @@ use Rattle.eval_state.specs.Scenes.{noted, with_env}
 use Rattle.eval_state.specs.declared.note_kind.NoteKind.{NoteKind}
 use Rattle.eval_state.specs.declared.note_kind.NoteKind.TheVariants.{AttributeNotRead, BadHwdbArguments, BuiltinNeeds, BuiltinNotRun, ImportNotRun, NoAnswer, TestNotMade, TextTooLong}
 use Rattle.eval_state.specs.declared.scene.Scene.{Scene}
-use Rattle.hwdb_lookup.specs.Query.{query}
 use Rattle.rule_types.specs.Builtins.{builtin_name}
 use Rattle.rule_types.specs.declared.builtins.Builtin.TheVariants.{InputId, NetId, NetSetupLink, PathId, UsbId}
 use Rattle.builtin_devices.specs.Outcomes.{OutcomeValue}
-use Rattle.eval_acts.specs.BuiltinRuns.{is_address_name, looked_up, most_set, needs_noted, needs_word, net_id_run, outcome_set, outcome_taken, path_id_run, properties_size, property_size, usb_id_run, with_maker}
+use Rattle.eval_acts.specs.BuiltinRuns.{looked_up, most_set, needs_noted, needs_word, net_id_run, outcome_set, outcome_taken, path_id_run, properties_size, usb_id_run, with_maker}
 use Rattle.eval_commands.specs.Builtins.{builtin, builtin_of, builtin_question, hwdb_asked}
 use Rattle.eval_commands.specs.Cmdline.{cmdline_value}
 use Rattle.eval_commands.specs.Hwdb.{hwdb_of}
@@ -53,7 +52,7 @@ use Rattle.eval_commands.specs.declared.builtin.Builtin.{Builtin}
 use Rattle.eval_commands.specs.declared.builtin.Builtin.TheVariants as asked_for
 use Rattle.eval_state.specs.Places.{is_there, place_of}
 use Rattle.eval_state.specs.Named.{NamedValue, named, named_place}
-use Rattle.eval_state.specs.Properties.{given_properties, properties_set, property_set}
+use Rattle.eval_state.specs.Properties.{given_properties, properties_set}
 use Rattle.eval_acts.specs.ActTexts.{import_text, names_text, program_text, test_text}
 use Rattle.eval_acts.specs.Acts.{act_step, command_reached, from_parent_by, import_reached, imported, on_text, performed}
 use Rattle.eval_acts.specs.Inner.{left}
@@ -68,70 +67,14 @@ use Rattle.eval_acts.specs.Unread.{first_unread, unread_notes}
 use Rattle.eval_laws.specs.Allowances.{act_kind_allowance, builtin_allowance, entries_weight, import_allowance}
 use Rattle.eval_laws.specs.Inner.{Within, scene_weight}
 use Rattle.eval_laws.specs.Weights.{note_weight}
-use Rattle.eval_laws.proofs.Tables.{with_value_light, with_values_light, without_name_light}
-use Rattle.eval_laws.proofs.Sums.{filter_light, fold_light}
-use Rattle.eval_laws.proofs.Found.{found_light, query_light}
+use Rattle.eval_laws.proofs.Sums.{filter_light}
+use Rattle.eval_laws.proofs.Found.{found_light}
 use Rattle.eval_laws.proofs.PrintedWeights.{answered_weight, answers_light, file_light, printed_light}
 use Rattle.eval_laws.proofs.StoredWeights.{stored_light}
 use Rattle.eval_laws.proofs.CmdlineWeights.{cmdline_light, line_light, line_weight, set_weight}
 use Rattle.eval_laws.proofs.Scenes.{more, noted_within}
 use Rattle.eval_laws.proofs.Starts.{properties_light}
-
--- the properties of a device, if there is one
-abbrev env_of : Option DeviceValue → List Pair
-env_of None = []
-env_of (Some device) = device.env
-
-env_light : (d : DeviceValue) → pairs_weight d.env ≤ device_weight d
-unfolding device_weight
-env_light d = omega arith
-
-second_light : (first : DeviceValue) (others : List DeviceValue) → pairs_weight (env_of (slice_get (first ∷ others) 1)) ≤ devices_weight (first ∷ others)
-second_light first [] = omega arith
-second_light first (second ∷ others) =
-    let a = sum_by-cons device_weight first (second ∷ others) in
-    let b = sum_by-cons device_weight second others in
-    let c = env_light second in
-    omega (arith, a, b, c)
-
-property_light : (held : List Pair) (pair : Pair) → pairs_weight (property_set pair.0 pair.1 held) ≤ pairs_weight held + pair_weight pair
-property_light held (name, []) = let a = without_name_light held name in omega (arith, a)
-property_light held (name, b ∷ t) = with_value_light held name (b ∷ t)
-
--- properties with those that were found
-found_more : (profile : Profile) (env properties : List Pair) → pairs_weight (with_found profile env properties) ≤ pairs_weight env + pairs_weight properties
-found_more Manual env properties = with_values_light env properties
-found_more Udev env properties = fold_light pair_weight pair_weight (λ held pair. property_set pair.0 pair.1 held) property_light env properties
-
--- the second device of an event has some of its texts
-parent_light : (event : EventValue) → pairs_weight (env_of (device_at event 1)) ≤ event_weight event
-unfolding event_weight
-parent_light event = let a = second_light event.device event.parents in omega (arith, a)
-
--- what the database says about a text
-looked_up_light : (known : Known) (text : Option Text) → properties_size (looked_up known text) ≤ entries_weight known.entries
-looked_up_light known None = omega arith
-looked_up_light known (Some text) =
-    let a = query_light known.entries text in
-    let b : pairs_weight (query known.entries text) ≡ properties_size (query known.entries text) = refl in
-    omega (arith, a, b)
-
--- properties with others after one of them
-with_maker_light : (found properties : List Pair) → properties_size (with_maker found properties) ≤ properties_size found + properties_size properties
-with_maker_light found [] = omega arith
-with_maker_light found (p ∷ ps) = by (is_address_name p) (with_maker_light found ps)
-  where
-    by : (b : Bool) → properties_size (with_maker found ps) ≤ properties_size found + properties_size ps
-        → properties_size (if◌then◌else◌ {A = List Pair} b (p ∷ found ++ ps) (p ∷ with_maker found ps)) ≤ properties_size found + properties_size (p ∷ ps)
-    by true rest =
-        let a = sum_by-cons property_size p (found ++ ps) in
-        let b = sum_by-append property_size found ps in
-        let c = sum_by-cons property_size p ps in
-        omega (arith, a, b, c)
-    by false rest =
-        let a = sum_by-cons property_size p (with_maker found ps) in
-        let c = sum_by-cons property_size p ps in
-        omega (arith, a, rest, c)
+use Rattle.eval_laws.proofs.FoundWeights.{env_of, found_more, looked_up_light, parent_light, with_maker_light}
 
 -- what udev's builtins set and note
 module _ (event : EventValue) where

@@ -7,7 +7,7 @@ use Rattle.text_bytes.specs.Texts.{is_empty, trimmed}
 use Rattle.text_bytes.specs.declared.profile.Profile.{Profile}
 use Rattle.text_bytes.specs.declared.profile.Profile.TheVariants.{Manual, Udev}
 use Rattle.text_tables.specs.Pairs.{value_of}
-use Rattle.text_tables.specs.Texts.{Text}
+use Rattle.text_bytes.specs.Text.{Text}
 use Rattle.device_core.specs.Values.{DeviceValue}
 use Rattle.rule_templates.specs.Template.{Parts as Template}
 use Rattle.rule_templates.specs.declared.piece.Piece.{Piece}

@@ -4,7 +4,7 @@ use Rattle.std.proofs.lemmas.List.{length-append, length-take}
 use Rattle.std.proofs.lemmas.List.Concat.{flat_map-append}
 use Rattle.text_bytes.specs.declared.profile.Profile.{Profile}
 use Rattle.text_bytes.specs.declared.profile.Profile.TheVariants.{Manual, Udev}
-use Rattle.text_tables.specs.Texts.{Text}
+use Rattle.text_bytes.specs.Text.{Text}
 use Rattle.device_core.specs.Values.{EventValue}
 use Rattle.device_notes.specs.Notes.{begins_with_sys, block_notes, is_behind_commands, is_stored_by_udev, is_unknown_action, note_about, note_if, notes_by, text_of}
 use Rattle.device_notes.specs.declared.kinds.BlockNoteKind.{BlockNoteKind}

@@ -6,7 +6,7 @@ use Rattle.std.proofs.lemmas.List.{drop_more, drop_at, take_at, take-append-drop
 use Rattle.std.proofs.lemmas.List.Quantifiers.{position-Some}
 use Rattle.text_bytes.specs.Names.{close_bracket, open_bracket, slash}
 use Rattle.text_bytes.specs.Texts.{begins_with, split_once}
-use Rattle.text_tables.specs.Texts.{Text}
+use Rattle.text_bytes.specs.Text.{Text}
 use Rattle.eval_state.specs.Named.{NamedValue, after_slash, named, named_after, named_by}
 use Rattle.eval_laws.specs.Naming.{HasNone, IsWrittenSo, bracketed}
 

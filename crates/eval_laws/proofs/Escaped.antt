@@ -3,7 +3,7 @@ use Rattle.std.proofs.Common.{◌≡◌, [], ◌∷◌, length, refl, arith, ◌
 use Rattle.std.proofs.lemmas.List.{length-map}
 use Rattle.text_bytes.specs.declared.profile.Profile.{Profile}
 use Rattle.text_bytes.specs.declared.profile.Profile.TheVariants.{Manual, Udev}
-use Rattle.text_tables.specs.Texts.{Text}
+use Rattle.text_bytes.specs.Text.{Text}
 use Rattle.text_links.specs.Safe.{link_marks, safe}
 use Rattle.text_links.proofs.Places.{length-safe}
 use Rattle.eval_assignments.specs.declared.escapes.Escape.{Escape}

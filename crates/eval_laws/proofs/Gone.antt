@@ -2,7 +2,8 @@
 use Rattle.std.proofs.Common.{◌≡◌, Bool, true, false, cond, not, ◌||◌, ◌&&◌, List, [], ◌∷◌, ◌++◌, refl, sym, ◌∙◌, ap}
 use Rattle.std.specs.List.{All}
 use Rattle.std.proofs.lemmas.List.Elements.{All-head, All-tail}
-use Rattle.text_tables.specs.Texts.{Text, same_text, is_among, with_text, with_texts, without_text}
+use Rattle.text_bytes.specs.Text.{Text}
+use Rattle.text_tables.specs.Texts.{same_text, is_among, with_text, with_texts, without_text}
 use Rattle.text_tables.proofs.Found.{among_removed}
 use Rattle.eval_assignments.specs.Lists.{without_texts}
 

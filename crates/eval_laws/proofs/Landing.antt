@@ -1,7 +1,8 @@
 -- A label that is sought is found at the next rule that has it.
 use Rattle.std.proofs.Common.{◌≡◌, suc, Bool, true, false, cond, not, List, [], ◌∷◌, ◌++◌, Option, Some, None, refl, ap, ◌∙◌, arith}
 use Rattle.std.specs.Cmp.Lexicographic.{bytes_decides}
-use Rattle.text_tables.specs.Texts.{Text, same_text}
+use Rattle.text_bytes.specs.Text.{Text}
+use Rattle.text_tables.specs.Texts.{same_text}
 use Rattle.builtin_knowledge.specs.Knowledge.{Known}
 use Rattle.rule_laws.specs.Outcomes.{HasLabel}
 use Rattle.rule_types.specs.Rules.{Rule}

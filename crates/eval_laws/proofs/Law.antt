@@ -8,7 +8,7 @@ use Rattle.text_bytes.specs.Names.{single_quote, double_quote}
 use Rattle.text_bytes.specs.Texts.{is_empty}
 use Rattle.text_bytes.specs.declared.profile.Profile.{Profile}
 use Rattle.text_bytes.specs.declared.profile.Profile.TheVariants.{Manual, Udev}
-use Rattle.text_tables.specs.Texts.{Text}
+use Rattle.text_bytes.specs.Text.{Text}
 use Rattle.eval_commands.specs.declared.words.Place.{Place}
 use Rattle.eval_commands.specs.declared.words.Place.TheVariants.{Between, InWord, Quoted}
 use Rattle.eval_commands.specs.Words.{Cut, begun, closed, command_words, finished_words, is_quote, separates, unread_command, took, udev_words}

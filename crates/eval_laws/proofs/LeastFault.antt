@@ -4,7 +4,7 @@ use Rattle.std.proofs.lemmas.List.{append-nil, append_assoc, length-append}
 use Rattle.std.specs.Option.{option_to_list}
 use Rattle.std.specs.List.{cons_option}
 use Rattle.text_bytes.specs.Texts.{is_empty}
-use Rattle.text_tables.specs.Texts.{Text}
+use Rattle.text_bytes.specs.Text.{Text}
 use Rattle.device_core.specs.Values.{DeviceValue, EventValue, chain}
 use Rattle.device_core.specs.Lines.{Row, row_of}
 use Rattle.device_core.specs.Blocks.{is_kind, before_device, groups, device, devices, event}

@@ -10,6 +10,7 @@ pub mod CutLemmas
 pub mod LineLemmas
 pub mod Grouping
 pub mod LeastFault
+pub mod RowWeights
 pub mod DeviceWeights
 pub mod Law
 pub mod Linking
@@ -41,6 +42,7 @@ pub mod Tables
 pub mod Starts
 pub mod Stepped
 pub mod Scenes
+pub mod FoundWeights
 pub mod Acted
 pub mod UnreadWeights
 pub mod Weighing

@@ -6,7 +6,7 @@ use Rattle.std.specs.Fmt.{digits, digits_onto, digit_glyph}
 use Rattle.std.specs.List.{sum_by}
 use Rattle.text_bytes.specs.Names.{colon, equals, newline, space}
 use Rattle.text_bytes.specs.Escapes.{escape_byte, escape_text, hex_digit, is_escaped}
-use Rattle.text_tables.specs.Texts.{Text}
+use Rattle.text_bytes.specs.Text.{Text}
 use Rattle.text_tables.specs.Pairs.{Pair}
 use Rattle.rule_types.specs.Names.{run_name}
 use Rattle.eval_laws.specs.DeviceWeights.{given_weight, pair_weight, text_weight}

@@ -4,7 +4,7 @@ use Rattle.std.proofs.lemmas.List.{length-append}
 use Rattle.std.proofs.lemmas.List.Concat.{flat_map-append}
 use Rattle.std.proofs.lemmas.Fmt.{length_signed_le}
 use Rattle.std.specs.Fmt.{signed_decimal}
-use Rattle.text_tables.specs.Texts.{Text}
+use Rattle.text_bytes.specs.Text.{Text}
 use Rattle.eval_laws.specs.DeviceWeights.{given_weight}
 use Rattle.eval_rules.specs.declared.outcome.Outcome.{Outcome}
 use Rattle.engine_answers.specs.Items.{ItemLine, given_lines, node_lines, persist_lines, priority_lines, watch_lines}

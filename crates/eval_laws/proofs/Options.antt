@@ -9,7 +9,8 @@ use Rattle.std.proofs.lemmas.List.{drop_more, drop_at, take_at, take-append-drop
 use Rattle.std.proofs.lemmas.List.Quantifiers.{position-Some}
 use Rattle.text_bytes.specs.Names.{equals}
 use Rattle.text_bytes.specs.Texts.{first, split_once}
-use Rattle.text_tables.specs.Texts.{Text, same_text}
+use Rattle.text_bytes.specs.Text.{Text}
+use Rattle.text_tables.specs.Texts.{same_text}
 use Rattle.text_core.specs.Spell.{spell}
 use Rattle.text_core.specs.declared.glob_fault.GlobFault.{GlobFault}
 use Rattle.text_core.specs.declared.item.Item.{Item}

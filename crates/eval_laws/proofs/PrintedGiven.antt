@@ -9,7 +9,7 @@ use Rattle.std.proofs.lemmas.List.Quantifiers.{position-Some}
 use Rattle.std.proofs.lemmas.List.Sums.{prefix_len-le-length, prefix_len_passes, prefix_len_stops, suffix_len-le-length}
 use Rattle.text_bytes.specs.Names.{equals, hash, is_blank}
 use Rattle.text_bytes.specs.Texts.{begins_with, is_empty, split_once, unindented}
-use Rattle.text_tables.specs.Texts.{Text}
+use Rattle.text_bytes.specs.Text.{Text}
 use Rattle.text_tables.specs.Pairs.{Pair}
 use Rattle.eval_acts.specs.Printed.{bare, before_end, line_property, property_cut, property_of, unquoted}
 use Rattle.eval_commands.specs.Words.{is_quote}

@@ -9,7 +9,7 @@ use Rattle.std.proofs.lemmas.List.Splits.{slice_split_at}
 use Rattle.std.proofs.lemmas.List.Sums.{prefix_len_is, suffix_len_is}
 use Rattle.text_bytes.specs.Names.{equals, hash, is_blank}
 use Rattle.text_bytes.specs.Texts.{begins_with, is_empty, split_once, unindented}
-use Rattle.text_tables.specs.Texts.{Text}
+use Rattle.text_bytes.specs.Text.{Text}
 use Rattle.text_tables.specs.Pairs.{Pair}
 use Rattle.eval_acts.specs.Printed.{bare, before_end, line_property, printed_properties, property_cut, property_of, unquoted, unspaced}
 use Rattle.eval_rendering.specs.Pieces.{ends_line}

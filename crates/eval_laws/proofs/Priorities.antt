@@ -3,7 +3,7 @@ use Rattle.std.proofs.Common.{◌≡◌, Bool, true, false, cond, List, [], ◌�
 use Rattle.std.specs.List.{fold}
 use Rattle.text_bytes.specs.declared.profile.Profile.{Profile}
 use Rattle.text_bytes.specs.declared.source_file.SourceFile.{SourceFile}
-use Rattle.text_tables.specs.Texts.{Text}
+use Rattle.text_bytes.specs.Text.{Text}
 use Rattle.builtin_knowledge.specs.Knowledge.{Known}
 use Rattle.rule_types.specs.declared.roles.AssignOperator.{AssignOperator}
 use Rattle.rule_types.specs.declared.roles.Target.{Target}

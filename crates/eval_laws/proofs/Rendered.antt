@@ -1,6 +1,6 @@
 -- A rendered text has at most 16,384 bytes.
 use Rattle.std.proofs.Common.{◌≡◌, ◌≤◌, Bool, true, false, nat_lt, ltb-false, length, flat_map, Option, Some, None, refl, if◌then◌else◌, ℕ, arith}
-use Rattle.text_tables.specs.Texts.{Text}
+use Rattle.text_bytes.specs.Text.{Text}
 use Rattle.text_links.specs.Safe.{link_marks}
 use Rattle.text_links.proofs.Places.{length-safe}
 use Rattle.rule_templates.specs.Template.{Parts as Template}

@@ -5,7 +5,8 @@ use Rattle.text_bytes.specs.Names.{space}
 use Rattle.text_bytes.specs.Texts.{is_empty}
 use Rattle.text_bytes.specs.declared.profile.Profile.{Profile}
 use Rattle.text_bytes.specs.declared.profile.Profile.TheVariants.{Manual}
-use Rattle.text_tables.specs.Texts.{Text, same_text}
+use Rattle.text_bytes.specs.Text.{Text}
+use Rattle.text_tables.specs.Texts.{same_text}
 use Rattle.text_tables.specs.Pairs.{Pair, value_of, with_value}
 use Rattle.text_tables.proofs.Found.{value_removed, value_set}
 use Rattle.rule_templates.specs.Template.{Parts as Template}

@@ -4,7 +4,7 @@ use Rattle.std.proofs.lemmas.List.Sums.{sum_by-cons, sum_by-append}
 use Rattle.text_bytes.specs.Texts.{is_empty}
 use Rattle.text_bytes.specs.declared.profile.Profile.{Profile}
 use Rattle.text_bytes.specs.declared.profile.Profile.TheVariants.{Manual, Udev}
-use Rattle.text_tables.specs.Texts.{Text}
+use Rattle.text_bytes.specs.Text.{Text}
 use Rattle.text_tables.specs.Pairs.{Pair, with_values}
 use Rattle.device_core.specs.Values.{EventValue, NumberValue}
 use Rattle.eval_laws.specs.DeviceWeights.{device_weight, event_weight, given_weight, number_weight, pair_weight, pairs_weight, text_weight}

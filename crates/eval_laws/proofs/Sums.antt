@@ -7,7 +7,7 @@ use Rattle.std.specs.declared.cmp.Ordering.{Ordering}
 use Rattle.std.specs.declared.cmp.Ordering.TheVariants.{Less, Equal, Greater}
 use Rattle.text_bytes.specs.Insertion.{put_by, text_order}
 use Rattle.std.specs.Ordering.{match_ordering}
-use Rattle.text_tables.specs.Texts.{Text}
+use Rattle.text_bytes.specs.Text.{Text}
 use Rattle.eval_laws.specs.DeviceWeights.{text_weight}
 
 -- sums of what is never greater

@@ -1,7 +1,8 @@
 -- What tables weigh as names are set and texts added or removed.
 use Rattle.std.proofs.Common.{◌+◌, ◌≤◌, Bool, true, false, not, List, [], ◌∷◌, ◌++◌, if◌then◌else◌, arith}
 use Rattle.std.proofs.lemmas.List.Sums.{sum_by-cons, sum_by_push}
-use Rattle.text_tables.specs.Texts.{Text, is_among, same_text, with_text, with_texts, without_text}
+use Rattle.text_bytes.specs.Text.{Text}
+use Rattle.text_tables.specs.Texts.{is_among, same_text, with_text, with_texts, without_text}
 use Rattle.text_tables.specs.Pairs.{Pair, with_value, with_values, without_name}
 use Rattle.eval_assignments.specs.Lists.{without_texts}
 use Rattle.eval_laws.specs.DeviceWeights.{pair_weight, pairs_weight, text_weight, texts_weight}

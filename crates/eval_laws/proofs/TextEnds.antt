@@ -6,7 +6,7 @@ use Rattle.std.proofs.lemmas.List.{take_all, take_more, get_or_append_left, get_
 use Rattle.std.proofs.lemmas.List.Sums.{suffix_len_is}
 use Rattle.std.proofs.lemmas.Option.{get_or_from_slice_get, slice_get-get_or, slice_get_read, slice_get_within}
 use Rattle.text_bytes.specs.Names.{is_whitespace}
-use Rattle.text_tables.specs.Texts.{Text}
+use Rattle.text_bytes.specs.Text.{Text}
 use Rattle.text_core.specs.declared.item.Item.{Item}
 use Rattle.text_core.specs.declared.item.Item.TheVariants as item
 use Rattle.text_bytes.specs.Texts.{trimmed}

@@ -5,7 +5,7 @@ use Rattle.std.proofs.lemmas.List.Folds.{list_any-append}
 use Rattle.std.specs.List.{join_with_byte, list_all, list_any, onto_first, prefix_len, slice_get, slice_split}
 use Rattle.text_bytes.specs.Names.{underscore, is_whitespace}
 use Rattle.text_bytes.specs.Texts.{is_empty, skip_while}
-use Rattle.text_tables.specs.Texts.{Text}
+use Rattle.text_bytes.specs.Text.{Text}
 use Rattle.eval_state.specs.Texts.{or_empty}
 use Rattle.text_links.specs.Underscores.{underscored, words}
 use Rattle.eval_rendering.specs.Words.{from_word, word_at, word_len}

@@ -8,7 +8,7 @@ use Rattle.text_bytes.specs.Names.{digit_zero, is_whitespace, minus, plus}
 use Rattle.text_bytes.specs.Texts.{begins_with, is_empty, skip_while}
 use Rattle.text_bytes.specs.declared.profile.Profile.{Profile}
 use Rattle.text_bytes.specs.declared.profile.Profile.TheVariants.{Manual, Udev}
-use Rattle.text_tables.specs.Texts.{Text}
+use Rattle.text_bytes.specs.Text.{Text}
 use Rattle.text_tables.specs.Pairs.{Pair, value_of}
 use Rattle.device_core.specs.Values.{DeviceValue}
 use Rattle.builtin_devices.specs.Devices.{is_of}

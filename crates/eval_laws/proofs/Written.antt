@@ -6,7 +6,8 @@ use Rattle.std.specs.Option.{option_and_then, option_or}
 use Rattle.std.specs.List.{list_any, join_with_byte, slice_split, prefix_len}
 use Rattle.text_bytes.specs.Names.{close_bracket, dot, open_bracket, slash}
 use Rattle.text_bytes.specs.Texts.{begins_with, is_empty, skip_while, split_once}
-use Rattle.text_tables.specs.Texts.{Text, same_text}
+use Rattle.text_bytes.specs.Text.{Text}
+use Rattle.text_tables.specs.Texts.{same_text}
 use Rattle.text_tables.specs.Pairs.{Pair, names}
 use Rattle.device_core.specs.Values.{DeviceValue}
 use Rattle.eval_state.specs.Named.{NamedValue, after_slash, named, named_after, named_by}

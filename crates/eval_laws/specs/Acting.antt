@@ -1,6 +1,6 @@
 -- Acts of a rule that are written with `==`.
 use Rattle.std.specs.Prelude.{List, Option}
-use Rattle.text_tables.specs.Texts.{Text}
+use Rattle.text_bytes.specs.Text.{Text}
 use Rattle.text_core.specs.declared.item.Item.{Item}
 use Rattle.rule_templates.specs.Template.{Parts as Template}
 use Rattle.rule_types.specs.declared.part.Act.{Act}

@@ -1,6 +1,6 @@
 -- When a PROGRAM is done, in terms of the event's block.
 use Rattle.std.specs.Prelude.{◌≡◌, Some}
-use Rattle.text_tables.specs.Texts.{Text}
+use Rattle.text_bytes.specs.Text.{Text}
 use Rattle.text_tables.specs.Pairs.{value_of}
 use Rattle.rule_templates.specs.Template.{Parts as Template}
 use Rattle.rule_types.specs.declared.roles.MatchOperator.TheVariants.{Equal}

@@ -1,7 +1,7 @@
 -- What a block gives and what its groups are, in terms of its lines and not of how they are read.
 use Rattle.std.specs.Prelude.{◌≡◌, ℕ, ◌+◌, ◌≤◌, Bool, true, false, List, ◌∷◌, ◌++◌, length, Some}
 use Rattle.std.specs.List.{filter_map, flat_map, list_any, AllByRecursion}
-use Rattle.text_tables.specs.Texts.{Text}
+use Rattle.text_bytes.specs.Text.{Text}
 use Rattle.device_core.specs.Lines.{Row, row_of}
 use Rattle.device_core.specs.Blocks.{is_kind, before_device, groups}
 use Rattle.device_core.specs.Faults.{line_fault}

@@ -1,7 +1,7 @@
 -- What an event weighs: each of its texts by its length and one more. The bound on an answer's weight uses it.
 use Rattle.std.specs.Prelude.{ℕ, ◌+◌, List, Option, Some, None, length}
 use Rattle.std.specs.List.{sum_by}
-use Rattle.text_tables.specs.Texts.{Text}
+use Rattle.text_bytes.specs.Text.{Text}
 use Rattle.text_tables.specs.Pairs.{Pair}
 use Rattle.device_core.specs.Values.{NumberValue, DeviceValue, AnswerValue, EventValue, chain}
 

@@ -2,7 +2,7 @@
 use Rattle.std.specs.Prelude.{◌≡◌, [], ◌∷◌, ◌++◌, List, map, filter, filter_map}
 use Rattle.std.specs.List.{flat_map}
 use Rattle.text_bytes.specs.Names.{equals}
-use Rattle.text_tables.specs.Texts.{Text}
+use Rattle.text_bytes.specs.Text.{Text}
 use Rattle.text_tables.specs.Pairs.{Pair}
 use Rattle.builtin_knowledge.specs.Knowledge.{Known}
 use Rattle.eval_lookups.specs.LookUps.{Candidate, counted_properties, is_wanted}

@@ -5,7 +5,7 @@ ghost use Rattle.text_bytes.specs.Names.{slash};
 ghost use Rattle.text_bytes.specs.Texts.{begins_with};
 ghost use Rattle.text_bytes.specs.declared.profile.Profile.TheVariants.{Manual};
 ghost use Rattle.text_tables.specs.Pairs.{value_of, with_values};
-ghost use Rattle.text_tables.specs.Texts.{Text};
+ghost use Rattle.text_bytes.specs.Text.{Text};
 ghost use Rattle.text_core.specs.Choices.{choice_fits};
 ghost use Rattle.text_core.specs.declared.item.Item.{Item};
 ghost use Rattle.builtin_knowledge.specs.Knowledge.{Known};

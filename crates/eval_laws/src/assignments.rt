@@ -5,7 +5,8 @@ ghost use Rattle.std.specs.Prelude.{◌≡◌, ◌≢◌, true, false, List, fol
 ghost use Rattle.std.specs.List.{All, list_any};
 ghost use Rattle.text_bytes.specs.Texts.{is_empty};
 ghost use Rattle.text_bytes.specs.declared.profile.Profile.TheVariants.{Udev};
-ghost use Rattle.text_tables.specs.Texts.{Text, is_among};
+ghost use Rattle.text_bytes.specs.Text.{Text};
+ghost use Rattle.text_tables.specs.Texts.{is_among};
 ghost use Rattle.rule_templates.specs.Template as templates;
 ghost use Rattle.rule_types.specs.declared.roles.AssignOperator.{AssignOperator};
 ghost use Rattle.rule_types.specs.declared.roles.AssignOperator.TheVariants.{Add, Remove};

@@ -2,7 +2,7 @@
 //!
 //! Each function here is empty: its contract is the law.
 ghost use Rattle.std.specs.Prelude.{◌≡◌, ◌↔◌, ◌≤◌, ◌∷◌, List, ℕ, length, true, false, Ok, Err, IsOk};
-ghost use Rattle.text_tables.specs.Texts.{Text};
+ghost use Rattle.text_bytes.specs.Text.{Text};
 ghost use Rattle.device_core.specs.Values.{EventValue, chain};
 ghost use Rattle.device_core.specs.Lines.{Row};
 ghost use Rattle.device_core.specs.Blocks.{devices, event};

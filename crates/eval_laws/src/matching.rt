@@ -1,7 +1,7 @@
 //! What is true of matches, whatever the rules are. Each function here is empty: its contract is the law.
 ghost use Rattle.std.specs.Prelude.{◌≡◌, ◌≢◌, ◌↔◌, ◌&&◌, ◌∷◌, [], ℕ, List, Some, None, true, false};
 ghost use Rattle.text_bytes.specs.declared.profile.Profile.TheVariants.{Manual};
-ghost use Rattle.text_tables.specs.Texts.{Text};
+ghost use Rattle.text_bytes.specs.Text.{Text};
 ghost use Rattle.text_tables.specs.Pairs.{value_of};
 ghost use Rattle.text_core.specs.Choices.{choice_fits};
 ghost use Rattle.device_core.specs.Values.{DeviceValue};

@@ -3,7 +3,7 @@
 ghost use Rattle.std.specs.Prelude.{◌≡◌, ◌↔◌, ◌<◌, ◌∷◌, ◌++◌, ℕ, Some, None, true, false, length};
 ghost use Rattle.text_bytes.specs.Names.{close_bracket, slash};
 ghost use Rattle.text_bytes.specs.Texts.{begins_with};
-ghost use Rattle.text_tables.specs.Texts.{Text};
+ghost use Rattle.text_bytes.specs.Text.{Text};
 ghost use Rattle.device_core.specs.Values.{DeviceValue, EventValue, chain};
 ghost use Rattle.eval_state.specs.Chains.{device_at, kernel_of};
 ghost use Rattle.eval_state.specs.Named.{NamedValue, is_named, named, named_place};

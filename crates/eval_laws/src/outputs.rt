@@ -1,7 +1,7 @@
 //! What is true of answers of several lines. Each function here is empty: its contract is the law.
 ghost use Rattle.std.specs.Prelude.{◌≡◌, ◌∷◌, ◌++◌, [], List, Some};
 ghost use Rattle.text_bytes.specs.Names.{carriage_return};
-ghost use Rattle.text_tables.specs.Texts.{Text};
+ghost use Rattle.text_bytes.specs.Text.{Text};
 ghost use Rattle.device_core.specs.Blocks.{answers};
 ghost use Rattle.device_core.specs.Lines.{Row};
 ghost use Rattle.device_core.specs.Parts.{answer_of};

@@ -4,7 +4,7 @@ ghost use Rattle.text_bytes.specs.Numbers.{is_digit};
 ghost use Rattle.text_bytes.specs.Texts.{is_empty, trimmed};
 ghost use Rattle.text_bytes.specs.declared.profile.Profile.TheVariants.{Manual, Udev};
 ghost use Rattle.text_tables.specs.Pairs.{value_of};
-ghost use Rattle.text_tables.specs.Texts.{Text};
+ghost use Rattle.text_bytes.specs.Text.{Text};
 ghost use Rattle.device_core.specs.Values.{DeviceValue, NumberValue};
 ghost use Rattle.rule_templates.specs.declared.piece.Piece.{Piece};
 ghost use Rattle.rule_templates.specs.declared.piece.Piece.TheVariants as piece;

@@ -2,7 +2,7 @@
 ghost use Rattle.std.specs.Prelude.{◌≡◌, ◌∷◌, ◌++◌, ℕ, All, List, None, Some, [], false, filter_map, flat_map, length, nat_le, true};
 ghost use Rattle.std.specs.Prelude.{codes};
 ghost use Rattle.text_bytes.specs.declared.profile.Profile.TheVariants.{Manual, Udev};
-ghost use Rattle.text_tables.specs.Texts.{Text};
+ghost use Rattle.text_bytes.specs.Text.{Text};
 ghost use Rattle.builtin_knowledge.specs.Knowledge.{Known};
 ghost use Rattle.builtin_knowledge.specs.declared.root_files.RootFile.TheVariants.{Absent, Read};
 ghost use Rattle.rule_templates.specs.Template as templates;

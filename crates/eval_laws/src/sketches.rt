@@ -1,6 +1,6 @@
 //! What follows from sketches and first bytes. Each function here is empty: its contract is the law.
 ghost use Rattle.std.specs.Prelude.{◌≡◌, ℕ, true, List, Some};
-ghost use Rattle.text_tables.specs.Texts.{Text};
+ghost use Rattle.text_bytes.specs.Text.{Text};
 ghost use Rattle.text_core.specs.Choices.{choice_fits};
 ghost use Rattle.text_core.specs.declared.item.Item.{Item};
 ghost use Rattle.eval_core.specs.Sketches.{exact_head, exact_sketch, first_byte, sketch};

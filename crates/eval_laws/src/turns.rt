@@ -3,7 +3,8 @@
 //!
 //! Each function here is empty: its contract is the law.
 ghost use Rattle.std.specs.Prelude.{◌≡◌, ◌∷◌, ◌++◌, [], false, map, List, None};
-ghost use Rattle.text_tables.specs.Texts.{Text, AreOnce};
+ghost use Rattle.text_bytes.specs.Text.{Text};
+ghost use Rattle.text_tables.specs.Texts.{AreOnce};
 ghost use Rattle.text_tables.specs.Pairs.{Pair, names, value_of};
 ghost use Rattle.text_tables.specs.Sorted.{by_name};
 ghost use Rattle.builtin_knowledge.specs.Knowledge.{Known};

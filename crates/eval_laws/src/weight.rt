@@ -5,7 +5,7 @@
 ghost use Rattle.std.specs.Prelude.{◌≡◌, ◌≤◌, List, length, Ok};
 ghost use Rattle.std.specs.List.{sum_by};
 ghost use Rattle.text_bytes.specs.declared.profile.Profile.{Profile};
-ghost use Rattle.text_tables.specs.Texts.{Text};
+ghost use Rattle.text_bytes.specs.Text.{Text};
 ghost use Rattle.builtin_knowledge.specs.Knowledge.{Known};
 ghost use Rattle.rule_types.specs.Rules.{Rule};
 ghost use Rattle.device_core.specs.Faults.{block_gives};

@@ -3,7 +3,7 @@
 ghost use Rattle.std.specs.Prelude.{◌≡◌, ◌↔◌, ℕ, List, slice_get};
 ghost use Rattle.std.specs.List.{join_with_byte};
 ghost use Rattle.text_bytes.specs.Names.{underscore};
-ghost use Rattle.text_tables.specs.Texts.{Text};
+ghost use Rattle.text_bytes.specs.Text.{Text};
 ghost use Rattle.eval_state.specs.Texts.{or_empty};
 ghost use Rattle.text_links.specs.Underscores.{underscored, words};
 ghost use Rattle.eval_rendering.specs.Words.{from_word, word_at};

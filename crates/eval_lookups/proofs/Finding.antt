@@ -3,7 +3,7 @@ use Rattle.std.proofs.Common.{◌≡◌, ℕ, suc, ◌<◌, false, ◌==◌, not
 use Rattle.std.specs.Prelude.{Some, find, unwrap_or}
 use Rattle.std.specs.Borrow.{Bor}
 use Rattle.text_bytes.specs.Texts.{is_empty}
-use Rattle.text_tables.specs.Texts.{Text}
+use Rattle.text_bytes.specs.Text.{Text}
 use Rattle.text_tables.specs.Pairs.{Pair}
 use Rattle.hwdb_lookup.specs.Query.{shown}
 use Rattle.eval_lookups.specs.LookUps.{first_found}

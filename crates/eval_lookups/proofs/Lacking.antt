@@ -1,7 +1,7 @@
 -- What the block lacks for the devices that `hwdb` looks at, up to the last of them.
 use Rattle.std.proofs.Common.{◌≡◌, cond, map, true, List, ◌∷◌, ◌++◌, ap, sym, ◌∙◌}
 use Rattle.std.specs.Prelude.{Bool, Option}
-use Rattle.text_tables.specs.Texts.{Text}
+use Rattle.text_bytes.specs.Text.{Text}
 use Rattle.text_bytes.specs.declared.profile.Profile.TheVariants.{Udev}
 use Rattle.device_core.specs.Values.{DeviceValue, EventValue}
 use Rattle.eval_lookups.specs.LookUps.{Candidate, candidate, is_last}

@@ -3,7 +3,7 @@ use Rattle.std.specs.Prelude.{Bool, false, is_some, List, [], ◌∷◌, ◌++�
 use Rattle.std.specs.List.{cons_option}
 use Rattle.text_bytes.specs.declared.profile.Profile.{Profile}
 use Rattle.text_bytes.specs.declared.profile.Profile.TheVariants.{Manual}
-use Rattle.text_tables.specs.Texts.{Text}
+use Rattle.text_bytes.specs.Text.{Text}
 use Rattle.text_tables.specs.Pairs.{Pair}
 use Rattle.builtin_knowledge.specs.Knowledge.{Known}
 use Rattle.device_core.specs.Values.{DeviceValue}

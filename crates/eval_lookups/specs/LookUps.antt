@@ -6,7 +6,7 @@ use Rattle.std.specs.Option.{option_or, unwrap_or}
 use Rattle.text_bytes.specs.declared.profile.Profile.{Profile}
 use Rattle.text_bytes.specs.declared.profile.Profile.TheVariants.{Manual, Udev}
 use Rattle.text_bytes.specs.Texts.{is_empty}
-use Rattle.text_tables.specs.Texts.{Text}
+use Rattle.text_bytes.specs.Text.{Text}
 use Rattle.text_tables.specs.Pairs.{Pair, value_of}
 use Rattle.text_core.specs.Fits.{fits}
 use Rattle.text_core.specs.declared.item.Item.{Item}

@@ -4,7 +4,7 @@ use Rattle.std.proofs.lemmas.Bool.Decides.{nat_tests}
 use Rattle.std.specs.Option.{option_and_then}
 use Rattle.text_bytes.specs.Names.{open_bracket}
 use Rattle.text_bytes.specs.Texts.{begins_with}
-use Rattle.text_tables.specs.Texts.{Text}
+use Rattle.text_bytes.specs.Text.{Text}
 use Rattle.device_core.specs.Values.{DeviceValue}
 use Rattle.rule_templates.specs.Substituted.{has_sign}
 use Rattle.eval_state.specs.declared.state.State.{State}

@@ -5,7 +5,7 @@ use Rattle.text_bytes.specs.Names.{open_bracket}
 use Rattle.text_bytes.specs.Texts.{begins_with, is_empty}
 use Rattle.text_bytes.specs.declared.profile.Profile.{Profile}
 use Rattle.text_bytes.specs.declared.profile.Profile.TheVariants as profile
-use Rattle.text_tables.specs.Texts.{Text}
+use Rattle.text_bytes.specs.Text.{Text}
 use Rattle.text_tables.specs.Pairs.{value_of}
 use Rattle.rule_templates.specs.Substituted.{has_sign}
 use Rattle.device_core.specs.Values.{DeviceValue, EventValue}

@@ -1,6 +1,6 @@
 -- Serves inner proofs only: how a pattern and a text begin.
 use Rattle.std.specs.Prelude.{◌==◌, Bool, true, false, not, [], ◌∷◌}
-use Rattle.text_tables.specs.Texts.{Text}
+use Rattle.text_bytes.specs.Text.{Text}
 use Rattle.text_core.specs.declared.item.Item.{Item}
 use Rattle.text_core.specs.declared.item.Item.TheVariants.{Byte}
 

@@ -2,7 +2,7 @@
 use Rattle.std.specs.Prelude.{Bool, false, not, if◌then◌else◌, List, Option, Some, None}
 use Rattle.std.specs.List.{list_any}
 use Rattle.text_bytes.specs.Names.{is_whitespace}
-use Rattle.text_tables.specs.Texts.{Text}
+use Rattle.text_bytes.specs.Text.{Text}
 use Rattle.text_core.specs.Choices.{choice_fits}
 use Rattle.text_core.specs.declared.item.Item.{Item}
 use Rattle.text_core.specs.declared.item.Item.TheVariants as item

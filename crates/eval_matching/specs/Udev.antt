@@ -4,7 +4,8 @@ use Rattle.std.specs.Char.{to_ascii_lowercase}
 use Rattle.std.specs.List.{prefix_len, suffix_len, list_any}
 use Rattle.text_bytes.specs.Names.{is_whitespace}
 use Rattle.text_bytes.specs.Texts.{skip_while}
-use Rattle.text_tables.specs.Texts.{Text, same_text}
+use Rattle.text_bytes.specs.Text.{Text}
+use Rattle.text_tables.specs.Texts.{same_text}
 use Rattle.text_core.specs.Choices.{choice_fits, is_bar}
 use Rattle.rule_templates.specs.Integers.{is_separator}
 use Rattle.rule_types.specs.declared.part.Comparison.{Comparison}

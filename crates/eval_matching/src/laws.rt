@@ -5,7 +5,8 @@ ghost use Rattle.text_bytes.specs.Names.{bar, carriage_return, newline, open_bra
 ghost use Rattle.text_bytes.specs.Texts.{begins_with, is_empty};
 ghost use Rattle.text_bytes.specs.declared.profile.Profile.TheVariants as profile;
 ghost use Rattle.text_core.specs.Choices.{is_bar};
-ghost use Rattle.text_tables.specs.Texts.{Text, same_text};
+ghost use Rattle.text_bytes.specs.Text.{Text};
+ghost use Rattle.text_tables.specs.Texts.{same_text};
 ghost use Rattle.text_tables.specs.Pairs.{value_of};
 ghost use Rattle.device_core.specs.Values.{DeviceValue, EventValue};
 ghost use Rattle.rule_templates.specs.Integers.{is_separator};

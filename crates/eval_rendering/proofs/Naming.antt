@@ -3,7 +3,7 @@ use Rattle.std.proofs.Common.{◌≡◌, ℕ, Bool, true, false, ◌||◌, List,
 use Rattle.std.proofs.lemmas.Bool.Decides.{nat_tests}
 use Rattle.std.proofs.lemmas.List.{append-nil}
 use Rattle.std.specs.List.{list_any}
-use Rattle.text_tables.specs.Texts.{Text}
+use Rattle.text_bytes.specs.Text.{Text}
 use Rattle.rule_templates.specs.Bare.{has_close, is_attribute}
 use Rattle.rule_templates.specs.Reading.{kept, left_of, udev_first}
 use Rattle.rule_templates.specs.declared.piece.Piece.{Piece}

@@ -4,7 +4,7 @@ use Rattle.std.proofs.lemmas.Bool.{cases_lt, eqb-true}
 use Rattle.std.proofs.lemmas.List.{nil_from_length}
 use Rattle.text_bytes.specs.Names.{is_whitespace}
 use Rattle.text_bytes.specs.Texts.{skip_while}
-use Rattle.text_tables.specs.Texts.{Text}
+use Rattle.text_bytes.specs.Text.{Text}
 use Rattle.eval_rendering.specs.Words.{from_word, word_len}
 
 -- if nothing is left from a word on, nothing is left from a later one on

@@ -1,7 +1,7 @@
 -- Texts that may not exceed 16,384 bytes, or fewer.
 use Rattle.std.specs.Prelude.{ℕ, nat_lt, if◌then◌else◌, ◌∷◌, ◌++◌, length, Option, Some, None, codes}
 use Rattle.text_bytes.specs.Names.{slash}
-use Rattle.text_tables.specs.Texts.{Text}
+use Rattle.text_bytes.specs.Text.{Text}
 use Rattle.device_core.specs.Values.{DeviceValue}
 use Rattle.eval_rendering.specs.declared.rendered.Rendered.{Rendered}
 use Rattle.eval_rendering.specs.declared.rendered.Rendered.TheVariants as rendered

@@ -1,6 +1,6 @@
 -- Serves proofs alone: a name that is put together part by part.
 use Rattle.std.specs.Prelude.{◌++◌, Option, Some, None}
-use Rattle.text_tables.specs.Texts.{Text}
+use Rattle.text_bytes.specs.Text.{Text}
 use Rattle.eval_rendering.specs.Bounds.{short}
 
 -- a name with more after it; one that is too long stays that

@@ -4,7 +4,8 @@ use Rattle.std.specs.List.{list_any, range_with_len}
 use Rattle.std.specs.Option.{option_and_then, option_or}
 use Rattle.text_bytes.specs.Names.{dot, slash}
 use Rattle.text_bytes.specs.Texts.{begins_with, following}
-use Rattle.text_tables.specs.Texts.{Text, same_text}
+use Rattle.text_bytes.specs.Text.{Text}
+use Rattle.text_tables.specs.Texts.{same_text}
 use Rattle.text_tables.specs.Pairs.{value_of}
 use Rattle.device_core.specs.Values.{DeviceValue, EventValue, chain}
 use Rattle.eval_state.specs.Chains.{device_at}

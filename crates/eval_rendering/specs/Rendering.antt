@@ -1,6 +1,6 @@
 -- A template with its substitutions made.
 use Rattle.std.specs.Prelude.{Bool, true, false, not, if◌then◌else◌, flat_map, Option, Some, None}
-use Rattle.text_tables.specs.Texts.{Text}
+use Rattle.text_bytes.specs.Text.{Text}
 use Rattle.text_links.specs.Safe.{link_marks, safe}
 use Rattle.text_links.specs.Underscores.{underscored}
 use Rattle.rule_templates.specs.Reading.{left_of}

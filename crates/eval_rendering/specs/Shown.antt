@@ -1,6 +1,6 @@
 -- Serves inner proofs only: the text of a piece, borrowed, made or joined.
 use Rattle.std.specs.Prelude.{map}
-use Rattle.text_tables.specs.Texts.{Text}
+use Rattle.text_bytes.specs.Text.{Text}
 use Rattle.eval_rendering.specs.declared.pieces.PieceText.{PieceText}
 use Rattle.eval_rendering.specs.Words.{spaced}
 use Rattle.eval_rendering.specs.declared.pieces.PieceText.TheVariants.{Borrowed, Made, Spaced}

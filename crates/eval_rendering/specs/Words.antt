@@ -2,7 +2,7 @@
 use Rattle.std.specs.Prelude.{ℕ, zero, suc, not, List, [], ◌∷◌, ◌++◌, drop, take, flat_map}
 use Rattle.std.specs.List.{prefix_len}
 use Rattle.text_bytes.specs.Names.{space, is_whitespace}
-use Rattle.text_tables.specs.Texts.{Text}
+use Rattle.text_bytes.specs.Text.{Text}
 use Rattle.text_bytes.specs.Texts.{skip_while}
 
 -- how many bytes the word at the start of a text has

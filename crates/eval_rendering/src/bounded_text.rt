@@ -16,10 +16,11 @@ pub(crate) struct BoundedText {
 }
 
 impl Model for BoundedText {
-    ghost use Rattle.std.specs.Prelude.{◌≤◌, List, ℕ, length, Option, Some, None, if◌then◌else◌};
+    ghost use Rattle.std.specs.Prelude.{◌≤◌, length, Option, Some, None, if◌then◌else◌};
+    ghost use Rattle.text_bytes.specs.Text.{Text};
     ghost use Rattle.eval_rendering.specs.Bounds.{most_bytes};
 
-    ghost Value = { Option (List ℕ) };
+    ghost Value = { Option Text };
 
     ghost view = { λ b. if b.fits then Some b.text.items else None };
 

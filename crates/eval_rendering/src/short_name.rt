@@ -19,9 +19,10 @@ pub struct ShortName {
 }
 
 impl Model for ShortName {
-    ghost use Rattle.std.specs.Prelude.{List, ℕ, Option, Some, None, if◌then◌else◌};
+    ghost use Rattle.std.specs.Prelude.{Option, Some, None, if◌then◌else◌};
+    ghost use Rattle.text_bytes.specs.Text.{Text};
 
-    ghost Value = { Option (List ℕ) };
+    ghost Value = { Option Text };
 
     ghost view = { λ n. if n.fits then Some n.bytes.items else None };
 }

@@ -1,6 +1,6 @@
 -- Whatever watches, the scene becomes what it would be anyway.
 use Rattle.std.proofs.Common.{◌≡◌, Bool, true, false, cond, List, [], ◌∷◌, Option, Result, Ok, Err, OnErr, refl, ap, sym, ◌∙◌}
-use Rattle.text_tables.specs.Texts.{Text}
+use Rattle.text_bytes.specs.Text.{Text}
 use Rattle.builtin_knowledge.specs.Knowledge.{Known}
 use Rattle.rule_types.specs.declared.part.Act.{Act}
 use Rattle.rule_types.specs.declared.part.Comparison.{Comparison}

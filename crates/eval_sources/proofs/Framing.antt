@@ -5,7 +5,8 @@ use Rattle.std.specs.Option.{option_or}
 use Rattle.std.specs.Cmp.Lexicographic.{bytes_decides}
 use Rattle.text_bytes.specs.declared.profile.Profile.{Profile}
 use Rattle.text_bytes.specs.declared.profile.Profile.TheVariants.{Manual, Udev}
-use Rattle.text_tables.specs.Texts.{Text, is_among, same_text, with_text, with_texts, without_text}
+use Rattle.text_bytes.specs.Text.{Text}
+use Rattle.text_tables.specs.Texts.{is_among, same_text, with_text, with_texts, without_text}
 use Rattle.text_tables.specs.Pairs.{Pair, value_of, with_value, without_name}
 use Rattle.eval_state.specs.Properties.{property_set}
 use Rattle.eval_state.specs.Scenes.{noted, with_env}

@@ -6,7 +6,8 @@ use Rattle.std.specs.Cmp.Lexicographic.{bytes_decides}
 use Rattle.text_bytes.specs.Names.{equals}
 use Rattle.text_bytes.specs.declared.profile.Profile.{Profile}
 use Rattle.text_bytes.specs.declared.profile.Profile.TheVariants.{Manual, Udev}
-use Rattle.text_tables.specs.Texts.{Text, is_among, same_text, without_text}
+use Rattle.text_bytes.specs.Text.{Text}
+use Rattle.text_tables.specs.Texts.{is_among, same_text, without_text}
 use Rattle.text_tables.specs.Pairs.{Pair, value_of}
 use Rattle.text_tables.proofs.Found.{among_removed}
 use Rattle.eval_state.specs.Texts.{filled}

@@ -1,7 +1,8 @@
 -- Where an item comes from, said without a walk; and what is kept for each item.
 use Rattle.std.specs.Prelude.{◌≡◌, Bool, if◌then◌else◌, List, [], ◌∷◌, Option, Some, None, unwrap_or}
 use Rattle.std.specs.List.{list_all}
-use Rattle.text_tables.specs.Texts.{Text, same_text}
+use Rattle.text_bytes.specs.Text.{Text}
+use Rattle.text_tables.specs.Texts.{same_text}
 use Rattle.text_tables.specs.Pairs.{Pair, value_of}
 use Rattle.rule_types.specs.Rules.{Rule}
 use Rattle.eval_effects.specs.Items.{is_present}

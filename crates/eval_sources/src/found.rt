@@ -14,7 +14,7 @@ pub(crate) struct Found {
 
 impl Model for Found {
     ghost use Rattle.std.specs.Prelude.{Option};
-    ghost use Rattle.text_tables.specs.Texts.{Text};
+    ghost use Rattle.text_bytes.specs.Text.{Text};
 
     ghost Value = { Text × Option Text };
 

@@ -4,7 +4,8 @@ use Rattle.std.proofs.Math.Bool.{or-true}
 use Rattle.std.proofs.Math.Seq.{take-append_seam}
 use Rattle.std.specs.List.{list_any}
 use Rattle.text_bytes.specs.Names.{slash}
-use Rattle.text_tables.specs.Texts.{Text, same_text}
+use Rattle.text_bytes.specs.Text.{Text}
+use Rattle.text_tables.specs.Texts.{same_text}
 use Rattle.device_core.specs.Values.{EventValue, chain}
 use Rattle.eval_state.specs.Files.{lies_at}
 use Rattle.eval_state.specs.Places.{PlaceValue, gone, has, has_rest, is_there, path_to, shows, stays}

@@ -9,7 +9,8 @@ use Rattle.std.specs.List.{list_any, prefix_len}
 use Rattle.std.specs.Option.{option_and_then, option_or}
 use Rattle.text_bytes.specs.Names.{slash}
 use Rattle.text_bytes.specs.Texts.{following, is_empty}
-use Rattle.text_tables.specs.Texts.{Text, same_text}
+use Rattle.text_bytes.specs.Text.{Text}
+use Rattle.text_tables.specs.Texts.{same_text}
 use Rattle.text_tables.specs.Pairs.{names}
 use Rattle.device_core.specs.Values.{DeviceValue}
 use Rattle.eval_state.specs.Files.{after_component, first_component, first_folder, folder_before, folder_between, has_name, is_end, is_folder, lies_at, star_place, starred, starred_at}

@@ -1,6 +1,6 @@
 -- The devices of an event by their places, and the names that the kernel gives them.
 use Rattle.std.specs.Prelude.{ℕ, Option, slice_get}
-use Rattle.text_tables.specs.Texts.{Text}
+use Rattle.text_bytes.specs.Text.{Text}
 use Rattle.device_core.specs.Values.{DeviceValue, EventValue, chain}
 use Rattle.text_links.specs.Kernels.{kernel_name}
 

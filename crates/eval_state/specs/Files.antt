@@ -6,7 +6,7 @@ use Rattle.std.specs.List.{list_any, prefix_len, range_with_len, starts_with}
 use Rattle.std.specs.Option.{option_and_then, option_or}
 use Rattle.text_bytes.specs.Names.{dot, slash, star}
 use Rattle.text_bytes.specs.Texts.{begins_with, following, is_empty}
-use Rattle.text_tables.specs.Texts.{Text}
+use Rattle.text_bytes.specs.Text.{Text}
 use Rattle.text_tables.specs.Pairs.{names}
 use Rattle.device_core.specs.Values.{DeviceValue}
 

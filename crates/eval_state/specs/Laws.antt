@@ -1,7 +1,7 @@
 -- An event of a device in a folder, of which examples speak.
 use Rattle.std.specs.Prelude.{Bool, None, [], ◌∷◌, codes}
 use Rattle.text_bytes.specs.declared.profile.Profile.TheVariants.{Udev}
-use Rattle.text_tables.specs.Texts.{Text}
+use Rattle.text_bytes.specs.Text.{Text}
 use Rattle.device_core.specs.Values.{EventValue, described}
 use Rattle.eval_state.specs.Places.{is_there, place_of}
 

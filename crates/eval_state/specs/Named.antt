@@ -3,7 +3,8 @@ use Rattle.std.specs.Prelude.{ℕ, Bool, false, ◌&&◌, if◌then◌else◌, [
 use Rattle.std.specs.List.{range_with_len}
 use Rattle.text_bytes.specs.Names.{close_bracket, open_bracket, slash}
 use Rattle.text_bytes.specs.Texts.{begins_with, split_once}
-use Rattle.text_tables.specs.Texts.{Text, same_text}
+use Rattle.text_bytes.specs.Text.{Text}
+use Rattle.text_tables.specs.Texts.{same_text}
 use Rattle.device_core.specs.Values.{DeviceValue, EventValue, chain}
 use Rattle.eval_state.specs.Chains.{device_at, kernel_of}
 

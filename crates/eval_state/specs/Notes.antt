@@ -1,7 +1,7 @@
 -- Notes: what rules asked for that a dry run does not do.
 use Rattle.std.specs.Prelude.{codes, take, [], ◌∷◌, ◌++◌, Option, Some, None}
 use Rattle.text_bytes.specs.Names.{open_brace, close_brace}
-use Rattle.text_tables.specs.Texts.{Text}
+use Rattle.text_bytes.specs.Text.{Text}
 use Rattle.text_bytes.specs.Texts.{word_of}
 use Rattle.rule_types.specs.Names.{key_name}
 use Rattle.rule_types.specs.declared.keys.Key.{Key}

@@ -1,7 +1,7 @@
 -- The outcome of an event so far: if nothing is left, before any rule has run, with one more note, and with other
 -- properties.
 use Rattle.std.specs.Prelude.{false, List, [], ◌∷◌, ◌++◌, Option, None}
-use Rattle.text_tables.specs.Texts.{Text}
+use Rattle.text_bytes.specs.Text.{Text}
 use Rattle.text_tables.specs.Pairs.{Pair}
 use Rattle.device_core.specs.Values.{EventValue}
 use Rattle.rule_types.specs.Rules.{Rule}

@@ -1,6 +1,7 @@
 -- What is known about an event before any rule has run.
 use Rattle.std.specs.Prelude.{List, [], ◌∷◌, ◌++◌, Option, Some, None, option_map, codes}
-use Rattle.text_tables.specs.Texts.{Text, with_texts}
+use Rattle.text_bytes.specs.Text.{Text}
+use Rattle.text_tables.specs.Texts.{with_texts}
 use Rattle.text_tables.specs.Pairs.{Pair, with_values}
 use Rattle.device_core.specs.Values.{EventValue}
 use Rattle.eval_state.specs.Properties.{given_properties}

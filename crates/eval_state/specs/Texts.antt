@@ -1,6 +1,6 @@
 -- Texts that may be absent.
 use Rattle.std.specs.Prelude.{[], ◌∷◌, Option, Some, None, unwrap_or}
-use Rattle.text_tables.specs.Texts.{Text}
+use Rattle.text_bytes.specs.Text.{Text}
 
 -- a text, empty if there is none
 abbrev pub or_empty : Option Text → Text

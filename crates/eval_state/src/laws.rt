@@ -5,7 +5,8 @@ ghost use Rattle.std.specs.Prelude.{◌≡◌, ◌≤◌, ◌∷◌, ◌++◌, �
 ghost use Rattle.text_bytes.specs.Names.{slash};
 ghost use Rattle.text_bytes.specs.declared.profile.Profile.TheVariants.{Manual, Udev};
 ghost use Rattle.text_tables.specs.Pairs.{Pair};
-ghost use Rattle.text_tables.specs.Texts.{Text, same_text};
+ghost use Rattle.text_bytes.specs.Text.{Text};
+ghost use Rattle.text_tables.specs.Texts.{same_text};
 ghost use Rattle.device_core.specs.Values.{DeviceValue, EventValue};
 ghost use Rattle.eval_state.specs.Files.{has_name, star_place, starred};
 ghost use Rattle.eval_state.specs.Laws.{leads};

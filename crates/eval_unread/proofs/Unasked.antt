@@ -6,7 +6,7 @@ use Rattle.text_bytes.specs.Names.{dot, open_bracket}
 use Rattle.text_bytes.specs.Texts.{begins_with}
 use Rattle.text_bytes.specs.declared.profile.Profile.{Profile}
 use Rattle.text_bytes.specs.declared.profile.Profile.TheVariants.{Manual, Udev}
-use Rattle.text_tables.specs.Texts.{Text}
+use Rattle.text_bytes.specs.Text.{Text}
 use Rattle.rule_templates.specs.declared.piece.Piece.{Piece}
 use Rattle.rule_templates.specs.declared.piece.Piece.TheVariants as piece
 use Rattle.rule_types.specs.declared.part.Assignment.{Assignment}

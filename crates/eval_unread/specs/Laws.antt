@@ -1,7 +1,7 @@
 -- Serves laws alone: which assignment leaves a note, said without a walk over rules.
 use Rattle.std.specs.Prelude.{◌≡◌, true, false, if◌then◌else◌, is_none, List, [], ◌∷◌, ◌++◌, Option, fold}
 use Rattle.std.specs.List.{list_all}
-use Rattle.text_tables.specs.Texts.{Text}
+use Rattle.text_bytes.specs.Text.{Text}
 use Rattle.rule_templates.specs.declared.piece.Piece.{Piece}
 use Rattle.rule_templates.specs.declared.piece.Piece.TheVariants as piece
 use Rattle.rule_types.specs.declared.part.Assignment.{Assignment}

@@ -3,7 +3,7 @@ use Rattle.std.specs.Prelude.{Bool, false, ◌||◌, List, []}
 use Rattle.std.specs.List.{list_any}
 use Rattle.text_bytes.specs.Names.{dot, open_bracket}
 use Rattle.text_bytes.specs.Texts.{begins_with}
-use Rattle.text_tables.specs.Texts.{Text}
+use Rattle.text_bytes.specs.Text.{Text}
 use Rattle.rule_templates.specs.declared.piece.Piece.{Piece}
 use Rattle.rule_templates.specs.declared.piece.Piece.TheVariants as piece
 use Rattle.rule_types.specs.declared.part.Change.{Change}

@@ -4,7 +4,7 @@ use Rattle.std.specs.Prelude.{Bool, not, if◌then◌else◌, List, [], ◌∷�
 use Rattle.rule_templates.specs.declared.piece.Piece.{Piece}
 use Rattle.text_bytes.specs.declared.profile.Profile.{Profile}
 use Rattle.text_bytes.specs.declared.profile.Profile.TheVariants.{Manual, Udev}
-use Rattle.text_tables.specs.Texts.{Text}
+use Rattle.text_bytes.specs.Text.{Text}
 use Rattle.rule_types.specs.declared.roles.Target.{Target}
 use Rattle.rule_types.specs.declared.roles.Target.TheVariants as target
 use Rattle.rule_types.specs.declared.part.Assignment.{Assignment}

@@ -1,7 +1,7 @@
 //! When an assignment leaves a note, and when none does. Each function here is empty: its contract is the law.
 ghost use Rattle.std.specs.Prelude.{◌≡◌, ◌↔◌, [], false, if◌then◌else◌, is_some, List, None, Option, true};
 ghost use Rattle.text_bytes.specs.declared.profile.Profile.TheVariants.{Manual, Udev};
-ghost use Rattle.text_tables.specs.Texts.{Text};
+ghost use Rattle.text_bytes.specs.Text.{Text};
 ghost use Rattle.rule_templates.specs.Template as templates;
 ghost use Rattle.rule_types.specs.declared.part.Change.TheVariants as change;
 ghost use Rattle.rule_types.specs.declared.roles.Target.TheVariants as target;

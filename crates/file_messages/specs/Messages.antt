@@ -1,5 +1,6 @@
 -- What a message keeps of a line, its number and the text that it is about, and which messages are about style.
-use Rattle.std.specs.Prelude.{ℕ, Bool, true, false, List}
+use Rattle.std.specs.Prelude.{ℕ, Bool, true, false}
+use Rattle.text_bytes.specs.Text.{Text}
 use Rattle.text_bytes.specs.Numbers.{capped}
 use Rattle.text_bytes.specs.Texts.{word_of}
 use Rattle.file_messages.specs.declared.message.Message.{Message}
@@ -8,7 +9,7 @@ use Rattle.file_messages.specs.declared.message.MessageKind.TheVariants.{CommaEx
 use Rattle.file_messages.specs.declared.message.MessageKind.TheVariants.{LeadingComma, BlankBeforeComma}
 
 -- the message that something is wrong with a line of a file, reported with a text of that line
-abbrev pub message : List ℕ → ℕ → MessageKind → List ℕ → Message
+abbrev pub message : Text → ℕ → MessageKind → Text → Message
 message file number kind text = record { file = file; line = capped number; kind = kind; word = word_of text }
 
 -- whether a kind of message is about style: the S messages

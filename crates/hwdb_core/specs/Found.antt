@@ -1,5 +1,6 @@
 -- Serves inner proofs only: what is found in the parts of files, and what is held of it.
 use Rattle.std.specs.Prelude.{◌≡◌, ℕ, ◌+◌, ◌≤◌, List, [], ◌∷◌, ◌++◌, Bool, true, length, sum_by, Option, Some, None, Result, Ok, Err}
+use Rattle.text_bytes.specs.Text.{Text}
 use Rattle.file_messages.specs.declared.message.Message.{Message}
 use Rattle.text_core.specs.Fits.{fits}
 use Rattle.text_core.specs.declared.item.Item.{Item}
@@ -38,7 +39,7 @@ found_in f (x ∷ xs) = join (f x) (found_in f xs)
 -- it fits, or all; how many were found; how many bytes the matches that give an entry have, and how many the keys and
 -- values; the messages.
 pub record Held : Type 0 where
-  pub wanted : Option (List ℕ)
+  pub wanted : Option Text
   pub entries : List Entry
   pub count : ℕ
   pub match_bytes : ℕ
@@ -46,16 +47,16 @@ pub record Held : Type 0 where
   pub messages : List Message
 
 -- before anything was read
-abbrev pub begun : Option (List ℕ) → Held
+abbrev pub begun : Option Text → Held
 begun wanted = record { wanted = wanted; entries = []; count = 0; match_bytes = 0; text_bytes = 0; messages = [] }
 
 -- whether entries of a pattern count
-abbrev pub counts : Option (List ℕ) → List Item → Bool
+abbrev pub counts : Option Text → List Item → Bool
 counts None pattern = true
 counts (Some modalias) pattern = fits pattern modalias
 
 -- the entries that count: if one modalias is asked for, those whose pattern it fits
-abbrev pub counting : Option (List ℕ) → List Entry → List Entry
+abbrev pub counting : Option Text → List Entry → List Entry
 counting None entries = entries
 counting (Some modalias) entries = fitting entries modalias
 

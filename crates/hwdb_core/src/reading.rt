@@ -3,10 +3,11 @@
 //! A paragraph's lines are collected until it ends, and then each of its four parts is read by a
 //! function of its own.
 
-ghost use Rattle.std.specs.Prelude.{◌≡◌, ℕ, List, OnOk, false, if◌then◌else◌, is_ok, length};
+ghost use Rattle.std.specs.Prelude.{◌≡◌, List, OnOk, false, if◌then◌else◌, is_ok, length};
 ghost use Rattle.text_core.specs.declared.item.Item.{Item};
 ghost use Rattle.hwdb_core.specs.Ruling.{IsPassed};
 ghost use Rattle.std.specs.List.{list_any};
+ghost use Rattle.text_bytes.specs.Text.{Text};
 ghost use Rattle.hwdb_core.specs.Paragraphs.{cut};
 ghost use Rattle.hwdb_core.specs.Properties.{pair_of};
 ghost use Rattle.hwdb_core.specs.Found.{Adds, counts, found_in};
@@ -146,7 +147,7 @@ fn pass_over(
     line: &Line<'_>,
     properties: &[Line<'_>],
 ) -> Result<(), HwdbFault>
-    ensures { (file : List ℕ) → IsPassed found.old.wanted line.now.text → Adds found.old found.new (match_found file properties.now line.now) result }
+    ensures { (file : Text) → IsPassed found.old.wanted line.now.text → Adds found.old found.new (match_found file properties.now line.now) result }
 {
     found.count_match(used_len(line, properties))?;
     count_pairs(found, properties)
@@ -154,7 +155,7 @@ fn pass_over(
 
 /// Counts the entries that properties give a pattern whose entries do not count.
 fn count_pairs(found: &mut Gathered, properties: &[Line<'_>]) -> Result<(), HwdbFault>
-    ensures { (file : List ℕ) (pattern : List Item) → counts found.old.wanted pattern ≡ false
+    ensures { (file : Text) (pattern : List Item) → counts found.old.wanted pattern ≡ false
         → Adds found.old found.new (found_in (pair_found file pattern) properties.now) result }
 {
     for line in properties {
@@ -166,7 +167,7 @@ fn count_pairs(found: &mut Gathered, properties: &[Line<'_>]) -> Result<(), Hwdb
 /// Counts the entry that a property gives a pattern whose entries do not count, if nothing is wrong with the
 /// property.
 fn count_pair(found: &mut Gathered, line: &Line<'_>) -> Result<(), HwdbFault>
-    ensures added { (file : List ℕ) (pattern : List Item) → counts found.old.wanted pattern ≡ false
+    ensures added { (file : Text) (pattern : List Item) → counts found.old.wanted pattern ≡ false
         → Adds found.old found.new (pair_found file pattern line.now) result }
     ensures wanted { OnOk result (found.new.wanted ≡ found.old.wanted) }
 {

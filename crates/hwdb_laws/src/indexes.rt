@@ -1,8 +1,9 @@
 //! Laws that show the definition of the index of files to be right.
 //!
 //! Each function here has an empty body, and its contract is a fact about the definitions.
-ghost use Rattle.std.specs.Prelude.{◌≡◌, ◌≤◌, ℕ, List, length};
+ghost use Rattle.std.specs.Prelude.{◌≡◌, ◌≤◌, List, length};
 ghost use Rattle.std.specs.List.Sorted.{IsPermutation};
+ghost use Rattle.text_bytes.specs.Text.{Text};
 ghost use Rattle.text_bytes.specs.declared.SourceFile.{SourceFile};
 ghost use Rattle.hwdb_core.specs.Sources.{WithinBounds, entries_of};
 ghost use Rattle.hwdb_lookup.specs.Query.{query, sourced};
@@ -28,8 +29,8 @@ pub fn what_is_read_makes_an_index()
     ensures length { (files : List SourceFile) → WithinBounds files → length (image (entries_of files)) ≤ max_index_len }
     ensures listed { (files : List SourceFile) → WithinBounds files
         → let index = contents (image (entries_of files)) in IsPermutation (entries_of files) (listed index.nodes index.values) }
-    ensures query { (files : List SourceFile) → WithinBounds files → (modalias : List ℕ)
+    ensures query { (files : List SourceFile) → WithinBounds files → (modalias : Text)
         → let index = contents (image (entries_of files)) in query (listed index.nodes index.values) modalias ≡ query (entries_of files) modalias }
-    ensures sources { (files : List SourceFile) → WithinBounds files → (modalias : List ℕ)
+    ensures sources { (files : List SourceFile) → WithinBounds files → (modalias : Text)
         → let index = contents (image (entries_of files)) in sourced (listed index.nodes index.values) modalias ≡ sourced (entries_of files) modalias }
 {}

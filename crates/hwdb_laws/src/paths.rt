@@ -2,6 +2,7 @@
 //!
 //! Each function here has an empty body, and its contract is a fact about the definitions.
 ghost use Rattle.std.specs.Prelude.{◌≡◌, ◌+◌, ◌<◌, ◌≤◌, ℕ, List, [], ◌∷◌, flat_map, length, sum_by, count_by, take};
+ghost use Rattle.text_bytes.specs.Text.{Text};
 ghost use Rattle.text_core.specs.declared.item.Item.{Item};
 ghost use Rattle.hwdb_lookup.specs.declared.entry.Entry.{Entry};
 ghost use Rattle.trie_build.specs.Distinct.{IsDistinctOf, IsIn};
@@ -38,6 +39,6 @@ pub fn a_trie_is_small()
     ensures nodes { (patterns listed : List (List Item)) → ((p : List Item) → IsIn p patterns → IsIn p listed)
         → length (paths_among patterns) ≤ 1 + sum_by length listed }
     ensures sets { (entries : List Entry) → length (sets_of entries) ≤ length (paths_of entries) }
-    ensures names { (entries : List Entry) (names : List (List ℕ)) → ((e : Entry) → IsIn e entries → IsIn e.file names)
+    ensures names { (entries : List Entry) (names : List Text) → ((e : Entry) → IsIn e entries → IsIn e.file names)
         → sum_by length (names_of entries) ≤ sum_by length names }
 {}

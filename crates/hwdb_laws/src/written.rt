@@ -1,5 +1,6 @@
 //! What an index answers.
-ghost use Rattle.std.specs.Prelude.{◌≡◌, ℕ, List};
+ghost use Rattle.std.specs.Prelude.{◌≡◌, List};
+ghost use Rattle.text_bytes.specs.Text.{Text};
 ghost use Rattle.hwdb_lookup.specs.Orders.{Rising};
 ghost use Rattle.hwdb_lookup.specs.Query.{query, sourced};
 ghost use Rattle.hwdb_lookup.specs.declared.entry.Entry.{Entry};
@@ -14,8 +15,8 @@ ghost use Rattle.trie_core.specs.Image.{image};
 /// The index that is written from some entries answers every modalias as the entries do, with the same files and
 /// lines.
 pub fn indexes_answer_as_their_entries()
-    ensures query { (es : List Entry) → Rising es → KeepsBounds es → AreTyped es → (modalias : List ℕ)
+    ensures query { (es : List Entry) → Rising es → KeepsBounds es → AreTyped es → (modalias : Text)
         → query (listed (contents (image es)).nodes (contents (image es)).values) modalias ≡ query es modalias }
-    ensures sources { (es : List Entry) → Rising es → KeepsBounds es → AreTyped es → (modalias : List ℕ)
+    ensures sources { (es : List Entry) → Rising es → KeepsBounds es → AreTyped es → (modalias : Text)
         → sourced (listed (contents (image es)).nodes (contents (image es)).values) modalias ≡ sourced es modalias }
 {}

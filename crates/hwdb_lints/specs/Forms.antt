@@ -5,7 +5,8 @@ use Rattle.std.specs.List.{list_any, starts_with}
 use Rattle.text_bytes.specs.Names.{backslash, close_bracket, colon, open_bracket, question_mark, star}
 use Rattle.text_bytes.specs.Numbers.{is_digit}
 use Rattle.text_bytes.specs.Texts.{ends_in, up_to}
-use Rattle.text_tables.specs.Texts.{Text, is_among}
+use Rattle.text_bytes.specs.Text.{Text}
+use Rattle.text_tables.specs.Texts.{is_among}
 use Rattle.hwdb_lints.specs.declared.modaliases.TheConstants.{FIRST_WORDS, MODALIASES}
 use Rattle.hwdb_lints.specs.declared.lint.DatabaseLint.{DatabaseLint}
 use Rattle.hwdb_lints.specs.declared.lint.DatabaseLint.TheVariants.{DigitCase, NoModalias, EndMissing, UnknownPrefix}
@@ -69,7 +70,7 @@ meeting_after step.Other following = meeting.Other
 
 -- how what a match has after its prefix meets a form: it ends before the form does, a byte of it is another one, or it
 -- fits
-abbrev pub meeting_of : List ℕ → List ℕ → Meeting
+abbrev pub meeting_of : Text → Text → Meeting
 meeting_of [] text = meeting.Fits
 meeting_of (place ∷ form) [] = meeting.Short
 meeting_of (place ∷ form) (byte ∷ text) = meeting_after (step_at place byte) (meeting_of form text)
@@ -82,7 +83,7 @@ swapped_after step.Free swapped following = false
 swapped_after step.Other swapped following = false
 
 -- whether a digit is in the other case than the form has it, among those that are compared with the form
-abbrev pub has_swapped : List ℕ → List ℕ → Bool
+abbrev pub has_swapped : Text → Text → Bool
 has_swapped [] text = false
 has_swapped (place ∷ form) [] = false
 has_swapped (place ∷ form) (byte ∷ text) = swapped_after (step_at place byte) (is_swapped place byte) (has_swapped form text)
@@ -135,7 +136,7 @@ match_fault text = fault_by (form_among forms text) text
 
 -- whether a modalias has a form behind its prefix: the bytes of its places, or up to a place that is no digit, and then
 -- `:`; more may follow
-abbrev pub is_of_form : List ℕ → List ℕ → Bool
+abbrev pub is_of_form : Text → Text → Bool
 is_of_form [] modalias = true
 is_of_form (place ∷ form) [] = false
 is_of_form (place ∷ form) (byte ∷ modalias) =

@@ -3,7 +3,8 @@ use Rattle.std.specs.Prelude.{ℕ, ◌-◌, Bool, not, if◌then◌else◌, List
 use Rattle.text_bytes.specs.Lines.{NumberedLine, numbered_lines}
 use Rattle.text_bytes.specs.Names.{equals, hash, space}
 use Rattle.text_bytes.specs.Texts.{begins_with, is_empty, split_once, trimmed, unindented, up_to}
-use Rattle.text_tables.specs.Texts.{Text, is_among, with_text}
+use Rattle.text_bytes.specs.Text.{Text}
+use Rattle.text_tables.specs.Texts.{is_among, with_text}
 use Rattle.hwdb_lints.specs.Forms.{match_fault}
 use Rattle.hwdb_lints.specs.Names.{is_name}
 use Rattle.hwdb_lints.specs.Placed.{placed, reported, reported_if, suffix_reported}
@@ -94,5 +95,5 @@ lints_from before [] = []
 lints_from before (l ∷ ls) = line_lints before l ++ lints_from (after_line before l) ls
 
 -- the lints of a file, by line, and those of one line by code
-unfoldable pub database_lints : List ℕ → List PlacedLint
+unfoldable pub database_lints : Text → List PlacedLint
 database_lints bytes = lints_from (record { matches = []; keys = [] }) (numbered_lines bytes)

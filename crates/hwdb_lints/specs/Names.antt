@@ -4,7 +4,8 @@ use Rattle.std.specs.List.{list_all}
 use Rattle.text_bytes.specs.Names.{underscore}
 use Rattle.text_bytes.specs.Numbers.{is_digit}
 use Rattle.text_bytes.specs.Texts.{following, is_empty}
-use Rattle.text_tables.specs.Texts.{Text, same_text}
+use Rattle.text_bytes.specs.Text.{Text}
+use Rattle.text_tables.specs.Texts.{same_text}
 use Rattle.hwdb_lints.specs.Forms.{is_small_digit}
 
 -- a capital letter

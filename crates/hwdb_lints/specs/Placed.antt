@@ -1,7 +1,7 @@
 -- Lints with their places.
 use Rattle.std.specs.Prelude.{ℕ, ◌+◌, ◌-◌, Bool, if◌then◌else◌, List, [], ◌∷◌, length, Option, Some, None}
 use Rattle.text_bytes.specs.Numbers.{capped}
-use Rattle.text_tables.specs.Texts.{Text}
+use Rattle.text_bytes.specs.Text.{Text}
 use Rattle.hwdb_lints.specs.declared.lint.DatabaseLint.{DatabaseLint}
 use Rattle.hwdb_lints.specs.declared.placed_lint.PlacedLint.{PlacedLint}
 

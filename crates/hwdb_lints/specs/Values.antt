@@ -5,7 +5,8 @@ use Rattle.std.specs.List.{list_all}
 use Rattle.text_bytes.specs.Names.{colon, comma, dot, minus, plus, space, star, underscore, is_blank}
 use Rattle.text_bytes.specs.Numbers.{is_digit}
 use Rattle.text_bytes.specs.Texts.{following, is_empty}
-use Rattle.text_tables.specs.Texts.{Text, is_among, same_text}
+use Rattle.text_bytes.specs.Text.{Text}
+use Rattle.text_tables.specs.Texts.{is_among, same_text}
 use Rattle.hwdb_lints.specs.declared.properties.TheConstants.{CHOICES, FLAGS, INPUT_FLAGS, LAYOUTS, NUMBERS}
 
 -- the properties that are `1` or `0`

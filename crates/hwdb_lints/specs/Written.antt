@@ -4,7 +4,7 @@ use Rattle.std.specs.Prelude.{Option, Some, None, is_none, option_map}
 use Rattle.std.specs.List.{suffix_len}
 use Rattle.text_bytes.specs.Names.{close_bracket, hash, open_bracket, space, tab, is_whitespace}
 use Rattle.text_bytes.specs.Texts.{begins_with, ends_in, following}
-use Rattle.text_tables.specs.Texts.{Text}
+use Rattle.text_bytes.specs.Text.{Text}
 
 -- what follows the three bytes of a byte order mark in UTF-8, if a text begins with them
 abbrev pub after_mark : Text → Option Text

@@ -1,5 +1,6 @@
 //! Examples of whole results, each the contract of a function with an empty body.
-ghost use Rattle.std.specs.Prelude.{◌≡◌, ◌∷◌, ◌++◌, ℕ, List, [], codes, false, true, None, Some, Ok};
+ghost use Rattle.std.specs.Prelude.{◌≡◌, ◌∷◌, ◌++◌, List, [], codes, false, true, None, Some, Ok};
+ghost use Rattle.text_bytes.specs.Text.{Text};
 ghost use Rattle.text_core.specs.Fits.{fits};
 ghost use Rattle.text_core.specs.Spell.{spell};
 ghost use Rattle.text_core.specs.declared.item.Item.{Item};
@@ -15,7 +16,7 @@ ghost use Rattle.hwdb_lints.specs.declared.lint.DatabaseLint.TheVariants.{MatchT
 /// What a match has after its prefix, read as a pattern, fits no modalias of a form if it is reported to end before the
 /// form does, to have another byte, or to have a digit in the other case.
 pub fn reported_matches_fit_no_modalias()
-    ensures { (form text modalias : List ℕ) (items : List Item) → spell text ≡ Ok items → fits items modalias ≡ true → is_of_form form modalias ≡ true
+    ensures { (form text modalias : Text) (items : List Item) → spell text ≡ Ok items → fits items modalias ≡ true → is_of_form form modalias ≡ true
         → (meeting_of form text ≡ Meeting.Fits) × (has_swapped form text ≡ false) }
 {}
 

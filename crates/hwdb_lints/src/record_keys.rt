@@ -15,10 +15,11 @@ pub(crate) struct RecordKeys<'a> {
 }
 
 impl<'a> Model for RecordKeys<'a> {
-    ghost use Rattle.std.specs.Prelude.{List, ℕ, ◌||◌, ◌++◌, IsTrue, is_some, option_map, option_to_list};
+    ghost use Rattle.std.specs.Prelude.{List, ◌||◌, ◌++◌, IsTrue, is_some, option_map, option_to_list};
+    ghost use Rattle.text_bytes.specs.Text.{Text};
     ghost use Rattle.text_bytes.specs.Texts.{is_empty};
 
-    ghost Value = { List (List ℕ) };
+    ghost Value = { List Text };
 
     ghost view = { λ k. option_to_list (option_map (λ name. name.now) k.first) ++ k.others };
 

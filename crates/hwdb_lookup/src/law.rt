@@ -1,5 +1,6 @@
 //! What is true of the answer to a query, in terms of the entries and not of how they are gathered.
-ghost use Rattle.std.specs.Prelude.{◌≡◌, ◌↔◌, List, ℕ};
+ghost use Rattle.std.specs.Prelude.{◌≡◌, ◌↔◌, List};
+ghost use Rattle.text_bytes.specs.Text.{Text};
 ghost use Rattle.hwdb_lookup.specs.Query.{winners};
 ghost use Rattle.hwdb_lookup.specs.Winning.{IsAnswer};
 ghost use Rattle.hwdb_lookup.specs.declared.entry.Entry.{Entry};
@@ -10,5 +11,5 @@ ghost use Rattle.hwdb_lookup.specs.declared.entry.Entry.{Entry};
 /// among the entries that fit and have its key, and of equal orders the last listed. And each key of an entry that
 /// fits is there. No other list has all this.
 pub fn winners_are_the_answer()
-    ensures { (entries : List Entry) (modalias : List ℕ) (won : List Entry) → IsAnswer entries modalias won ↔ (won ≡ winners entries modalias) }
+    ensures { (entries : List Entry) (modalias : Text) (won : List Entry) → IsAnswer entries modalias won ↔ (won ≡ winners entries modalias) }
 {}

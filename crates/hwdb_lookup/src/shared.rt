@@ -12,10 +12,10 @@ pub struct SharedBytes {
 }
 
 impl Model for SharedBytes {
-    ghost use Rattle.std.specs.Prelude.{List, ℕ};
     ghost use Rattle.std.specs.Rc.{rc_slice_items};
+    ghost use Rattle.text_bytes.specs.Text.{Text};
 
-    ghost Value = { List ℕ };
+    ghost Value = { Text };
 
     ghost view = { λ b. rc_slice_items b.held };
 }

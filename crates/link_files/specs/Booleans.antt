@@ -1,7 +1,8 @@
 -- The words of systemd's files that mean yes and no.
 use Rattle.std.specs.Prelude.{Bool, List, [], ◌∷◌, map, codes}
 use Rattle.std.specs.Char.{to_ascii_lowercase}
-use Rattle.text_tables.specs.Texts.{Text, is_among}
+use Rattle.text_bytes.specs.Text.{Text}
+use Rattle.text_tables.specs.Texts.{is_among}
 
 -- the words that mean yes
 abbrev pub yes_words : List Text

@@ -7,7 +7,7 @@ use Rattle.text_bytes.specs.FileOrder.{ordered}
 use Rattle.text_bytes.specs.Names.{backslash, colon, dot, slash}
 use Rattle.text_bytes.specs.Texts.{begins_with, following, is_empty}
 use Rattle.text_bytes.specs.declared.source_file.SourceFile.{SourceFile}
-use Rattle.text_tables.specs.Texts.{Text}
+use Rattle.text_bytes.specs.Text.{Text}
 use Rattle.link_files.specs.Settings.{ReadingValue, unread, with_file}
 use Rattle.link_files.specs.declared.settings.Setting.{Setting}
 

@@ -3,7 +3,7 @@ use Rattle.std.specs.Prelude.{ℕ, ◌-◌, ◌%◌, ◌==◌, ◌||◌, Bool, L
 use Rattle.std.specs.List.{suffix_len}
 use Rattle.text_bytes.specs.Names.{backslash, carriage_return, hash, is_blank, newline, space}
 use Rattle.text_bytes.specs.Texts.{begins_with, ends_in, skip_while, without_last}
-use Rattle.text_tables.specs.Texts.{Text}
+use Rattle.text_bytes.specs.Text.{Text}
 
 -- a space, a tab, a newline or a carriage return
 abbrev pub is_space : ℕ → Bool

@@ -6,7 +6,8 @@ use Rattle.std.specs.Option.{option_map_or}
 use Rattle.text_bytes.specs.Names.{bang, equals, underscore}
 use Rattle.text_bytes.specs.Numbers.{is_digit}
 use Rattle.text_bytes.specs.Texts.{begins_with, is_empty, split_once}
-use Rattle.text_tables.specs.Texts.{Text, same_text}
+use Rattle.text_bytes.specs.Text.{Text}
+use Rattle.text_tables.specs.Texts.{same_text}
 use Rattle.link_files.specs.Names.{is_interface_name}
 use Rattle.link_files.specs.Words.{is_whole, words_of}
 use Rattle.link_files.specs.declared.settings.Setting.{Setting}

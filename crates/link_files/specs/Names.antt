@@ -4,7 +4,8 @@ use Rattle.std.specs.List.{list_all}
 use Rattle.text_bytes.specs.Names.{colon, percent, slash}
 use Rattle.text_bytes.specs.Numbers.{is_digit}
 use Rattle.text_bytes.specs.Texts.{is_empty}
-use Rattle.text_tables.specs.Texts.{Text, is_among}
+use Rattle.text_bytes.specs.Text.{Text}
+use Rattle.text_tables.specs.Texts.{is_among}
 
 -- whether a byte may be in a name of an interface: of ASCII, no blank and no control, and none of `:/%`
 abbrev pub is_name_byte : ℕ → Bool

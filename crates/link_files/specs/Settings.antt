@@ -7,7 +7,7 @@ use Rattle.text_bytes.specs.Escapes.{is_control}
 use Rattle.text_bytes.specs.Lines.{lines}
 use Rattle.text_bytes.specs.Names.{backslash, close_bracket, double_quote, equals, open_bracket, single_quote}
 use Rattle.text_bytes.specs.Texts.{begins_with, ends_in, is_empty, split_once}
-use Rattle.text_tables.specs.Texts.{Text}
+use Rattle.text_bytes.specs.Text.{Text}
 use Rattle.link_files.specs.Lines.{joined, stripped}
 use Rattle.link_files.specs.declared.settings.Setting.{Setting}
 

@@ -1,7 +1,7 @@
 -- The words of a value, as systemd.syntax(7) separates them.
 use Rattle.std.specs.Prelude.{ℕ, ◌==◌, ◌||◌, ◌&&◌, not, Bool, true, false, List, [], ◌∷◌, ◌++◌, fold, if◌then◌else◌}
 use Rattle.text_bytes.specs.Names.{backslash, double_quote, single_quote}
-use Rattle.text_tables.specs.Texts.{Text}
+use Rattle.text_bytes.specs.Text.{Text}
 use Rattle.link_files.specs.Lines.{is_space}
 use Rattle.link_files.specs.declared.words.WordKind.{WordKind}
 use Rattle.link_files.specs.declared.words.WordKind.TheVariants.{Plain, Name, Glob, Property}

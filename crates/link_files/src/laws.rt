@@ -3,7 +3,7 @@
 //! Each function here is empty: its contract is the law.
 ghost use Rattle.std.specs.Prelude.{◌≡◌, ◌≤◌, ◌∷◌, List, Some, [], codes, false, length, true};
 ghost use Rattle.std.specs.Str.{is_utf8};
-ghost use Rattle.text_tables.specs.Texts.{Text};
+ghost use Rattle.text_bytes.specs.Text.{Text};
 ghost use Rattle.text_bytes.specs.declared.source_file.FileKind.{FileKind};
 ghost use Rattle.link_files.specs.Examples.{at};
 ghost use Rattle.link_files.specs.Files.{link_files};

@@ -1,7 +1,7 @@
 //! What `.link` files set.
 ghost use Rattle.std.specs.Prelude.{◌≡◌, ◌∷◌, [], List, OnOk, fold, if◌then◌else◌, option_map};
 ghost use Rattle.std.specs.List.{list_all};
-ghost use Rattle.text_tables.specs.Texts.{Text};
+ghost use Rattle.text_bytes.specs.Text.{Text};
 ghost use Rattle.link_files.specs.Lines.{joined_from};
 ghost use Rattle.link_files.specs.Settings.{inside, is_section_byte, section_of, unmarked, unread, with_assignment, with_file, with_line};
 ghost use Rattle.link_files.specs.Settings.{with_section, with_setting};

@@ -5,7 +5,7 @@ use Rattle.text_bytes.specs.Lines.{NumberedLine, lines, numbered_from}
 use Rattle.text_bytes.specs.Names.{equals, open_bracket, space}
 use Rattle.text_bytes.specs.Texts.{begins_with, is_empty, split_once, without_last}
 use Rattle.text_bytes.specs.declared.source_file.SourceFile.{SourceFile}
-use Rattle.text_tables.specs.Texts.{Text}
+use Rattle.text_bytes.specs.Text.{Text}
 use Rattle.link_files.specs.Files.{reading_of}
 use Rattle.link_files.specs.Lines.{bare, is_comment, is_continued, joined_from, stripped}
 use Rattle.link_files.specs.Settings.{ReadingValue, broken, section_of, unmarked, with_assignment, with_file, with_line, with_section}

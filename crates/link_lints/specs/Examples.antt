@@ -1,6 +1,6 @@
 -- Lines and faults, written short for examples.
 use Rattle.std.specs.Prelude.{ℕ, List, [], ◌∷◌, length}
-use Rattle.text_tables.specs.Texts.{Text}
+use Rattle.text_bytes.specs.Text.{Text}
 use Rattle.link_lints.specs.Joined.{JoinedLine}
 use Rattle.link_lints.specs.declared.fault.LinkFault.{LinkFault}
 use Rattle.link_lints.specs.declared.placed_fault.PlacedFault.{PlacedFault}

@@ -4,7 +4,7 @@ use Rattle.std.specs.Str.{is_utf8}
 use Rattle.text_bytes.specs.Names.{equals, open_bracket}
 use Rattle.text_bytes.specs.Numbers.{capped}
 use Rattle.text_bytes.specs.Texts.{begins_with, is_empty, split_once}
-use Rattle.text_tables.specs.Texts.{Text}
+use Rattle.text_bytes.specs.Text.{Text}
 use Rattle.link_files.specs.Lines.{from_start, stripped}
 use Rattle.link_files.specs.Settings.{section_of}
 use Rattle.link_lints.specs.Joined.{JoinedLine, joined_lines}

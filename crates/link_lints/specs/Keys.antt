@@ -1,7 +1,8 @@
 -- The sections of a .link file, and their keys.
 use Rattle.std.specs.Prelude.{Bool, true, false, List, [], ◌∷◌, map, codes, nat_eq, Option, Some, None, if◌then◌else◌}
 use Rattle.std.specs.List.{starts_with}
-use Rattle.text_tables.specs.Texts.{Text, same_text}
+use Rattle.text_bytes.specs.Text.{Text}
+use Rattle.text_tables.specs.Texts.{same_text}
 use Rattle.link_lints.specs.declared.keys.Form.{Form}
 use Rattle.link_lints.specs.declared.keys.TheConstants.{ENERGY_KEYS, FUNCTION_KEYS, LINK_KEYS, MATCH_KEYS}
 use Rattle.link_lints.specs.declared.sections.Section.{Section}

@@ -3,7 +3,7 @@ use Rattle.std.specs.Prelude.{◌&&◌, ◌||◌, Bool, not, List, [], ◌∷◌
 use Rattle.std.specs.List.{ends_with}
 use Rattle.text_bytes.specs.Texts.{is_empty}
 use Rattle.text_bytes.specs.declared.source_file.SourceFile.{SourceFile}
-use Rattle.text_tables.specs.Texts.{Text}
+use Rattle.text_bytes.specs.Text.{Text}
 use Rattle.link_files.specs.Files.{LinkFileValue, is_drop_in, with_drop_ins}
 use Rattle.link_files.specs.Lists.{last_of, list_of, match_section}
 use Rattle.link_files.specs.declared.settings.Setting.{Setting}

@@ -2,7 +2,8 @@
 use Rattle.std.specs.Prelude.{Bool, true, ◌&&◌, ◌||◌, List, map}
 use Rattle.std.specs.List.{list_all}
 use Rattle.text_bytes.specs.Texts.{is_empty}
-use Rattle.text_tables.specs.Texts.{Text, is_among}
+use Rattle.text_bytes.specs.Text.{Text}
+use Rattle.text_tables.specs.Texts.{is_among}
 use Rattle.link_files.specs.Booleans.{is_no, is_yes}
 use Rattle.link_files.specs.Lists.{is_list}
 use Rattle.link_files.specs.Names.{is_interface_name}

@@ -1,6 +1,6 @@
 -- What can be mended in a document.
 use Rattle.std.specs.Prelude.{List, [], ◌∷◌, ◌++◌, codes}
-use Rattle.text_tables.specs.Texts.{Text}
+use Rattle.text_bytes.specs.Text.{Text}
 use Rattle.json.specs.Json.{Json}
 use Rattle.text_json.specs.Values.{array_of}
 use Rattle.lsp_diagnostics.specs.Fixes.{action, fixes}

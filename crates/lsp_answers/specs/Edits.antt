@@ -3,7 +3,8 @@ use Rattle.std.specs.Prelude.{◌&&◌, Bool, not, if◌then◌else◌, List, []
 use Rattle.std.specs.Str.{is_utf8}
 use Rattle.text_bytes.specs.declared.source_file.FileKind.{FileKind}
 use Rattle.text_bytes.specs.declared.source_file.FileKind.TheVariants.{Hwdb, Rules}
-use Rattle.text_tables.specs.Texts.{Text, same_text}
+use Rattle.text_bytes.specs.Text.{Text}
+use Rattle.text_tables.specs.Texts.{same_text}
 use Rattle.json.specs.Json.{Json, string}
 use Rattle.text_json.specs.Values.{array_of, object_of}
 use Rattle.rule_format.specs.Mended.{mended}

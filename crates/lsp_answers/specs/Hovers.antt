@@ -1,7 +1,7 @@
 -- What is told about the word at a place.
 use Rattle.std.specs.Prelude.{◌-◌, [], ◌∷◌, Option, Some, None, codes, drop, option_and_then, option_map, take}
 use Rattle.text_bytes.specs.declared.source_file.FileKind.{FileKind}
-use Rattle.text_tables.specs.Texts.{Text}
+use Rattle.text_bytes.specs.Text.{Text}
 use Rattle.json.specs.Json.{Json, null, string}
 use Rattle.text_json.specs.Values.{object_of}
 use Rattle.devdry_explanations.specs.Texts.{section_of}

@@ -1,6 +1,6 @@
 -- The names that a word may become.
 use Rattle.std.specs.Prelude.{ℕ, List, [], ◌∷◌, Option, Some, None, codes, map, take}
-use Rattle.text_tables.specs.Texts.{Text}
+use Rattle.text_bytes.specs.Text.{Text}
 use Rattle.json.specs.Json.{Json, string}
 use Rattle.text_json.specs.Values.{array_of, number_value, object_of}
 use Rattle.lsp_diagnostics.specs.Documents.{kind_of}

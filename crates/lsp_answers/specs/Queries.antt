@@ -2,7 +2,7 @@
 use Rattle.std.specs.Prelude.{Bool, List, [], ◌∷◌, Option, Some, None, Result, Ok, Err, codes, find, option_map}
 use Rattle.std.specs.Str.{bytes_eq}
 use Rattle.text_tables.specs.Pairs.{value_of}
-use Rattle.text_tables.specs.Texts.{Text}
+use Rattle.text_bytes.specs.Text.{Text}
 use Rattle.json.specs.Json.{Json}
 use Rattle.lsp_messages.specs.Parameters.{PlacedValue, RangedValue, includes_declaration, placed_of, ranged_of, uri_of}
 use Rattle.lsp_messages.specs.declared.errors.ErrorCode.{ErrorCode}

@@ -1,7 +1,7 @@
 -- A place in a row of a document.
 use Rattle.std.specs.Prelude.{ℕ, take}
 use Rattle.text_bytes.specs.Numbers.{capped}
-use Rattle.text_tables.specs.Texts.{Text}
+use Rattle.text_bytes.specs.Text.{Text}
 use Rattle.json.specs.Json.{Json}
 use Rattle.lsp_messages.specs.Positions.{range_value}
 use Rattle.lsp_texts.specs.Rows.{row_at, start_of}

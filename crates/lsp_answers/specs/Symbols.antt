@@ -1,6 +1,6 @@
 -- The rules or records of a document.
 use Rattle.std.specs.Prelude.{ℕ, List, [], ◌∷◌, codes, length, map}
-use Rattle.text_tables.specs.Texts.{Text}
+use Rattle.text_bytes.specs.Text.{Text}
 use Rattle.json.specs.Json.{Json}
 use Rattle.text_json.specs.Told.{told}
 use Rattle.text_json.specs.Values.{array_of, number_value, object_of}

@@ -3,7 +3,7 @@ ghost use Rattle.std.specs.Prelude.{◌≡◌, ◌≢◌, ◌≤◌, Err, IfOk, 
 ghost use Rattle.std.specs.Str.{IsUtf8};
 ghost use Rattle.text_bytes.specs.declared.source_file.FileKind.TheVariants.{Hwdb};
 ghost use Rattle.text_tables.specs.Pairs.{value_of};
-ghost use Rattle.text_tables.specs.Texts.{Text};
+ghost use Rattle.text_bytes.specs.Text.{Text};
 ghost use Rattle.json.specs.Json.{Json, null};
 ghost use Rattle.text_json.specs.Values.{array_of};
 ghost use Rattle.lsp_answers.specs.Edits.{formatting, mended_text};

@@ -1,6 +1,6 @@
 -- For proofs only: the tokens of an action before and after its edits.
 use Rattle.std.specs.Prelude.{List, [], ◌∷◌, codes}
-use Rattle.text_tables.specs.Texts.{Text}
+use Rattle.text_bytes.specs.Text.{Text}
 use Rattle.json.specs.Token as token
 use Rattle.json.specs.Token.{Token}
 use Rattle.text_json.specs.Told.{told_text}

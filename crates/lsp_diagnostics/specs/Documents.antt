@@ -5,7 +5,7 @@ use Rattle.text_bytes.specs.Kinds.{suffix_of}
 use Rattle.text_bytes.specs.declared.source_file.FileKind.{FileKind}
 use Rattle.text_bytes.specs.declared.source_file.FileKind.TheVariants.{Hwdb, Rules}
 use Rattle.text_bytes.specs.declared.source_file.SourceFile.{SourceFile}
-use Rattle.text_tables.specs.Texts.{Text}
+use Rattle.text_bytes.specs.Text.{Text}
 use Rattle.json.specs.Json.{Json, string}
 use Rattle.text_json.specs.Values.{array_of, number_value, object_of}
 use Rattle.hwdb_core.specs.Sources.{are_few}

@@ -1,7 +1,7 @@
 //! What is true of diagnostics of documents. Each law is the contract of a function that does nothing.
 ghost use Rattle.std.specs.Prelude.{◌≡◌, [], ◌∷◌, true};
 ghost use Rattle.text_bytes.specs.declared.source_file.FileKind.TheVariants.{Hwdb, Rules};
-ghost use Rattle.text_tables.specs.Texts.{Text};
+ghost use Rattle.text_bytes.specs.Text.{Text};
 ghost use Rattle.hwdb_core.specs.Sources.{are_few};
 ghost use Rattle.rule_core.specs.Ends.{file_as_read};
 ghost use Rattle.engine_ends.specs.declared.line.Line.{Line};

@@ -1,5 +1,6 @@
 -- What a client sent, by the members of its object.
-use Rattle.std.specs.Prelude.{ℕ, Bool, true, false, ◌&&◌, ◌||◌, is_some, if◌then◌else◌, List, Option, Some, None, codes, option_map, ⊤}
+use Rattle.std.specs.Prelude.{Bool, true, false, ◌&&◌, ◌||◌, is_some, if◌then◌else◌, Option, Some, None, codes, option_map, ⊤}
+use Rattle.text_bytes.specs.Text.{Text}
 use Rattle.json.specs.Json.{Json, null, boolean, number, string, array, object}
 use Rattle.json.specs.Find.{as_str, get}
 use Rattle.json.specs.Tree.{HasNumbers}
@@ -9,8 +10,8 @@ use Rattle.lsp_messages.specs.declared.message.Message.TheVariants.{Request, Not
 
 -- what a client sent: a request with its id, its method and its parameters, a notification with these two, a response, or none of them
 pub data MessageValue : Type 0 where
-  request : Json → List ℕ → Option Json → MessageValue
-  notification : List ℕ → Option Json → MessageValue
+  request : Json → Text → Option Json → MessageValue
+  notification : Text → Option Json → MessageValue
   response : MessageValue
   invalid : MessageValue
 
@@ -31,12 +32,12 @@ is_id (array js) = false
 is_id (object ms) = false
 
 -- what a value with a method is: without an id a notification, with one a request
-abbrev pub called : Option Json → List ℕ → Option Json → MessageValue
+abbrev pub called : Option Json → Text → Option Json → MessageValue
 called None method params = notification method params
 called (Some id) method params = if is_id id then request id method params else invalid
 
 -- what a value is by its member `method`: it has to be a string
-abbrev pub named : Json → Option (List ℕ) → MessageValue
+abbrev pub named : Json → Option Text → MessageValue
 named value None = invalid
 named value (Some method) = called (get (codes "id") value) method (get (codes "params") value)
 

@@ -1,11 +1,12 @@
 -- What a client can do, as it says when it begins.
-use Rattle.std.specs.Prelude.{ℕ, Bool, false, ◌||◌, List, Option, codes, option_and_then, option_map, unwrap_or}
+use Rattle.std.specs.Prelude.{Bool, false, ◌||◌, Option, codes, option_and_then, option_map, unwrap_or}
 use Rattle.std.specs.Str.{bytes_eq}
+use Rattle.text_bytes.specs.Text.{Text}
 use Rattle.json.specs.Json.{Json, null, boolean, number, string, array, object, Items, no_items, item}
 use Rattle.json.specs.Find.{as_array, as_bool, get}
 
 -- whether a value is this string
-abbrev pub is_string : List ℕ → Json → Bool
+abbrev pub is_string : Text → Json → Bool
 is_string text null = false
 is_string text (boolean b) = false
 is_string text (number s) = false
@@ -14,12 +15,12 @@ is_string text (array js) = false
 is_string text (object ms) = false
 
 -- whether one of the items is this string
-abbrev pub has_string : List ℕ → Items → Bool
+abbrev pub has_string : Text → Items → Bool
 has_string text no_items = false
 has_string text (item value values) = is_string text value || has_string text values
 
 -- whether a value is an array that has this string
-abbrev pub lists : List ℕ → Option Json → Bool
+abbrev pub lists : Text → Option Json → Bool
 lists text value = unwrap_or (option_map (has_string text) (option_and_then as_array value)) false
 
 -- what is said about all documents
@@ -27,7 +28,7 @@ abbrev pub general_of : Json → Option Json
 general_of params = option_and_then (get (codes "general")) (get (codes "capabilities") params)
 
 -- what is said about a request that is about a document
-abbrev pub feature_of : List ℕ → Json → Option Json
+abbrev pub feature_of : Text → Json → Option Json
 feature_of name params = option_and_then (get name) (option_and_then (get (codes "textDocument")) (get (codes "capabilities") params))
 
 -- whether a client can count in bytes of UTF-8

@@ -1,5 +1,6 @@
 -- The options that a client gives when it begins.
-use Rattle.std.specs.Prelude.{ℕ, List, [], ◌∷◌, Option, Some, None, codes, map, option_and_then, option_map}
+use Rattle.std.specs.Prelude.{List, [], ◌∷◌, Option, Some, None, codes, map, option_and_then, option_map}
+use Rattle.text_bytes.specs.Text.{Text}
 use Rattle.json.specs.Json.{Json, null, boolean, number, string, array, object, Items, no_items, item}
 use Rattle.json.specs.Find.{as_str, get}
 use Rattle.lsp_messages.specs.declared.options.Options.{Options}
@@ -8,7 +9,7 @@ use Rattle.lsp_messages.specs.declared.options.Options.TheVariants.{Absent, Word
 -- options: none are given, these words are, or something else is
 pub data OptionsValue : Type 0 where
   absent : OptionsValue
-  words : List (List ℕ) → OptionsValue
+  words : List Text → OptionsValue
   malformed : OptionsValue
 
 abbrev pub options_shown : Options → OptionsValue
@@ -17,12 +18,12 @@ options_shown (Words ws) = words (map (λ w. w.now) ws.items)
 options_shown Malformed = malformed
 
 -- the strings that items are, if each is one
-abbrev pub strings_in : Items → Option (List (List ℕ))
+abbrev pub strings_in : Items → Option (List Text)
 strings_in no_items = Some []
 strings_in (item value values) = option_and_then (λ text. option_map (λ texts. text ∷ texts) (strings_in values)) (as_str value)
 
 -- what options are by the strings that they are
-abbrev pub given_options : Option (List (List ℕ)) → OptionsValue
+abbrev pub given_options : Option (List Text) → OptionsValue
 given_options None = malformed
 given_options (Some texts) = words texts
 

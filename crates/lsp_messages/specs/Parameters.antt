@@ -1,5 +1,6 @@
 -- The parameters of requests and notifications.
-use Rattle.std.specs.Prelude.{ℕ, Bool, false, List, Option, codes, option_and_then, option_map, unwrap_or}
+use Rattle.std.specs.Prelude.{ℕ, Bool, false, Option, codes, option_and_then, option_map, unwrap_or}
+use Rattle.text_bytes.specs.Text.{Text}
 use Rattle.json.specs.Json.{Json}
 use Rattle.json.specs.Find.{as_bool, as_str, get}
 use Rattle.lsp_messages.specs.Positions.{number_at, position_at, range_of}
@@ -9,7 +10,7 @@ use Rattle.lsp_messages.specs.declared.parameters.Ranged.{Ranged}
 use Rattle.lsp_texts.specs.declared.rows.Position.{Position}
 
 -- the string that a member is
-abbrev pub string_at : List ℕ → Json → Option (List ℕ)
+abbrev pub string_at : Text → Json → Option Text
 string_at name value = option_and_then as_str (get name value)
 
 -- the document that parameters are about
@@ -17,7 +18,7 @@ abbrev pub document_of : Json → Option Json
 document_of params = get (codes "textDocument") params
 
 -- the URI of the document that parameters are about
-unfoldable pub uri_of : Json → Option (List ℕ)
+unfoldable pub uri_of : Json → Option Text
 uri_of params = option_and_then (string_at (codes "uri")) (document_of params)
 
 -- the version of the document that parameters are about
@@ -26,10 +27,10 @@ version_of params = option_and_then (number_at (codes "version")) (document_of p
 
 -- a document that was opened
 pub record OpenedValue : Type 0 where
-  pub uri : List ℕ
-  pub language : Option (List ℕ)
+  pub uri : Text
+  pub language : Option Text
   pub version : Option ℕ
-  pub text : List ℕ
+  pub text : Text
 
 -- what a contract sees of a document that was opened
 abbrev pub opened_shown : Opened → OpenedValue
@@ -51,7 +52,7 @@ opened_of params = option_and_then opened_in (document_of params)
 
 -- a place in a document
 pub record PlacedValue : Type 0 where
-  pub uri : List ℕ
+  pub uri : Text
   pub position : Position
 
 abbrev pub placed_shown : Placed → PlacedValue
@@ -64,7 +65,7 @@ placed_of params =
 
 -- a range of a document
 pub record RangedValue : Type 0 where
-  pub uri : List ℕ
+  pub uri : Text
   pub start : Position
   pub end : Position
 

@@ -1,5 +1,6 @@
 -- Positions and ranges as values of JSON.
-use Rattle.std.specs.Prelude.{ℕ, ◌^◌, List, [], ◌∷◌, Option, codes, option_and_then, option_map}
+use Rattle.std.specs.Prelude.{ℕ, ◌^◌, [], ◌∷◌, Option, codes, option_and_then, option_map}
+use Rattle.text_bytes.specs.Text.{Text}
 use Rattle.text_bytes.specs.Numbers.{decimal_below}
 use Rattle.json.specs.Json.{Json, string}
 use Rattle.json.specs.Find.{as_number, get}
@@ -11,7 +12,7 @@ abbrev pub number_of : Json → Option ℕ
 number_of value = option_and_then (decimal_below (2 ^ 31)) (as_number value)
 
 -- the number that a member is
-abbrev pub number_at : List ℕ → Json → Option ℕ
+abbrev pub number_at : Text → Json → Option ℕ
 number_at name value = option_and_then number_of (get name value)
 
 -- the position of a line and a character in it
@@ -23,7 +24,7 @@ unfoldable pub position_of : Json → Option Position
 position_of value = option_and_then (λ line. option_map (place line) (number_at (codes "character") value)) (number_at (codes "line") value)
 
 -- the position that a member is
-abbrev pub position_at : List ℕ → Json → Option Position
+abbrev pub position_at : Text → Json → Option Position
 position_at name value = option_and_then position_of (get name value)
 
 -- the range that a value is: where it starts and where it ends
@@ -39,9 +40,9 @@ unfoldable pub range_value : Position → Position → Json
 range_value start end = object_of ((codes "start", position_value start) ∷ (codes "end", position_value end) ∷ [])
 
 -- a range of a document as a value
-unfoldable pub location_value : List ℕ → Position → Position → Json
+unfoldable pub location_value : Text → Position → Position → Json
 location_value uri start end = object_of ((codes "uri", string uri) ∷ (codes "range", range_value start end) ∷ [])
 
 -- a text in place of a range, as a value
-unfoldable pub edit_value : Position → Position → List ℕ → Json
+unfoldable pub edit_value : Position → Position → Text → Json
 edit_value start end text = object_of ((codes "range", range_value start end) ∷ (codes "newText", string text) ∷ [])

@@ -1,6 +1,7 @@
 -- What a server sends.
-use Rattle.std.specs.Prelude.{ℕ, ℤ, negsuc, List, [], ◌∷◌, ◌++◌, Option, codes, unwrap_or}
+use Rattle.std.specs.Prelude.{ℤ, negsuc, List, [], ◌∷◌, ◌++◌, Option, codes, unwrap_or}
 use Rattle.std.specs.Fmt.{signed_decimal}
+use Rattle.text_bytes.specs.Text.{Text}
 use Rattle.json.specs.Json.{Json, null, number, string}
 use Rattle.json.specs.Token as token
 use Rattle.json.specs.Token.{Token}
@@ -10,7 +11,7 @@ use Rattle.lsp_messages.specs.declared.errors.ErrorCode.{ErrorCode}
 use Rattle.lsp_messages.specs.declared.errors.ErrorCode.TheVariants.{ParseError, InvalidRequest, MethodNotFound, InvalidParams, ServerNotInitialized}
 
 -- the member that each message begins with
-abbrev pub version_member : List ℕ × Json
+abbrev pub version_member : Text × Json
 version_member = (codes "jsonrpc", string (codes "2.0"))
 
 -- the response to the request of this id
@@ -18,7 +19,7 @@ unfoldable pub response_of : Json → Json → Json
 response_of id result = object_of (version_member ∷ (codes "id", id) ∷ (codes "result", result) ∷ [])
 
 -- a notification
-unfoldable pub notification_of : List ℕ → Json → Json
+unfoldable pub notification_of : Text → Json → Json
 notification_of method params = object_of (version_member ∷ (codes "method", string method) ∷ (codes "params", params) ∷ [])
 
 -- the number of an error: 1 more than what follows, below zero
@@ -30,11 +31,11 @@ code_number InvalidParams = negsuc 32601
 code_number ServerNotInitialized = negsuc 32001
 
 -- what an error is: its number and what is said about it
-unfoldable pub error_value : ErrorCode → List ℕ → Json
+unfoldable pub error_value : ErrorCode → Text → Json
 error_value code message = object_of ((codes "code", number (signed_decimal (code_number code))) ∷ (codes "message", string message) ∷ [])
 
 -- the response that is an error: without an id, its id is null
-unfoldable pub error_of : Option Json → ErrorCode → List ℕ → Json
+unfoldable pub error_of : Option Json → ErrorCode → Text → Json
 error_of id code message = object_of (version_member ∷ (codes "id", unwrap_or id null) ∷ (codes "error", error_value code message) ∷ [])
 
 -- the tokens of a response up to its result
@@ -43,7 +44,7 @@ response_begins id =
     token.begin_object ∷ token.key (codes "jsonrpc") ∷ token.string (codes "2.0") ∷ token.key (codes "id") ∷ (json_tokens id ++ token.key (codes "result") ∷ [])
 
 -- the tokens of a notification up to its parameters
-unfoldable pub notification_begins : List ℕ → List Token
+unfoldable pub notification_begins : Text → List Token
 notification_begins method =
     token.begin_object ∷ token.key (codes "jsonrpc") ∷ token.string (codes "2.0") ∷ token.key (codes "method") ∷ token.string method
     ∷ token.key (codes "params") ∷ []

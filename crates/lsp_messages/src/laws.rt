@@ -1,6 +1,7 @@
 //! Laws of messages. Each is the contract of a function with an empty body.
 ghost use Rattle.std.specs.Prelude.{◌≡◌, ℕ, ◌^◌, ◌<◌, List, [], ◌∷◌, ◌++◌, None, Option, Some, codes, length, false, option_map, true};
 ghost use Rattle.std.specs.Fmt.{signed_decimal};
+ghost use Rattle.text_bytes.specs.Text.{Text};
 ghost use Rattle.json.specs.Json.{Json, document, max_depth, string};
 ghost use Rattle.json.specs.Print.{print};
 ghost use Rattle.json.specs.Token as token;
@@ -18,7 +19,7 @@ ghost use Rattle.lsp_messages.specs.declared.errors.ErrorCode.TheVariants.{Inval
 pub fn messages_are_their_parts()
     ensures response { (id result : Json) → json_tokens (response_of id result)
         ≡ response_begins id ++ (json_tokens result ++ token.end_object ∷ []) }
-    ensures notification { (method : List ℕ) (params : Json) → json_tokens (notification_of method params)
+    ensures notification { (method : Text) (params : Json) → json_tokens (notification_of method params)
         ≡ notification_begins method ++ (json_tokens params ++ token.end_object ∷ []) }
 {}
 
@@ -26,13 +27,13 @@ pub fn messages_are_their_parts()
 /// that method. A request is read with its id, method and parameters.
 pub fn messages_are_what_is_meant()
     ensures response { (id result : Json) → message_of (response_of id result) ≡ response }
-    ensures error { (id : Option Json) (code : ErrorCode) (said : List ℕ) → message_of (error_of id code said) ≡ response }
-    ensures notification { (method : List ℕ) (params : Json) → message_of (notification_of method params) ≡ notification method (Some params) }
-    ensures request { (id params : Json) (method : List ℕ) → is_id id ≡ true
+    ensures error { (id : Option Json) (code : ErrorCode) (said : Text) → message_of (error_of id code said) ≡ response }
+    ensures notification { (method : Text) (params : Json) → message_of (notification_of method params) ≡ notification method (Some params) }
+    ensures request { (id params : Json) (method : Text) → is_id id ≡ true
         → message_of (object_of (version_member ∷ (codes "id", id) ∷ (codes "method", string method) ∷ (codes "params", params) ∷ []))
         ≡ request id method (Some params) }
     // An id of another kind makes it invalid: null does, too.
-    ensures other { (id params : Json) (method : List ℕ) → is_id id ≡ false
+    ensures other { (id params : Json) (method : Text) → is_id id ≡ false
         → message_of (object_of (version_member ∷ (codes "id", id) ∷ (codes "method", string method) ∷ (codes "params", params) ∷ []))
         ≡ invalid }
 {}
@@ -42,10 +43,10 @@ pub fn messages_are_what_is_meant()
 pub fn messages_are_read_back()
     ensures response { (id result : Json) → is_id id ≡ true → HasNumbers id → HasNumbers result → depth result < max_depth
         → document (print (json_tokens (response_of id result))) ≡ Some (response_of id result) }
-    ensures error { (id : Json) (code : ErrorCode) (said : List ℕ) → is_id id ≡ true → HasNumbers id
+    ensures error { (id : Json) (code : ErrorCode) (said : Text) → is_id id ≡ true → HasNumbers id
         → document (print (json_tokens (error_of (Some id) code said))) ≡ Some (error_of (Some id) code said) }
-    ensures no_id { (code : ErrorCode) (said : List ℕ) → document (print (json_tokens (error_of None code said))) ≡ Some (error_of None code said) }
-    ensures notification { (method : List ℕ) (params : Json) → HasNumbers params → depth params < max_depth
+    ensures no_id { (code : ErrorCode) (said : Text) → document (print (json_tokens (error_of None code said))) ≡ Some (error_of None code said) }
+    ensures notification { (method : Text) (params : Json) → HasNumbers params → depth params < max_depth
         → document (print (json_tokens (notification_of method params))) ≡ Some (notification_of method params) }
 {}
 

@@ -3,7 +3,7 @@ use Rattle.std.proofs.Common.{◌≡◌, Bool, true, false, Option, Some, None, 
 use Rattle.std.specs.Prelude.{codes}
 use Rattle.std.specs.Str.{bytes_eq}
 use Rattle.text_json.specs.Told.{told_text}
-use Rattle.text_tables.specs.Texts.{Text}
+use Rattle.text_bytes.specs.Text.{Text}
 use Rattle.json.specs.Json.{Json, null}
 use Rattle.lsp_answers.specs.Answers.{answer}
 use Rattle.lsp_answers.specs.Queries.{QueryValue, query_of}

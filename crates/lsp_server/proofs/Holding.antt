@@ -3,7 +3,7 @@ use Rattle.std.proofs.Common.{◌≡◌, Bool, true, false, List, [], ◌∷◌,
 use Rattle.std.specs.Prelude.{ℕ, codes}
 use Rattle.std.specs.Str.{bytes_eq}
 use Rattle.text_tables.specs.Pairs.{value_of}
-use Rattle.text_tables.specs.Texts.{Text}
+use Rattle.text_bytes.specs.Text.{Text}
 use Rattle.json.specs.Json.{Json}
 use Rattle.lsp_sessions.specs.declared.frames.Item.{Item}
 use Rattle.lsp_sessions.specs.declared.frames.Item.TheVariants.{Content, NoFrame, TooLong}

@@ -1,6 +1,6 @@
 -- The request `initialize`.
 use Rattle.std.specs.Prelude.{if◌then◌else◌, Option, Some, None, Result, Ok, Err}
-use Rattle.text_tables.specs.Texts.{Text}
+use Rattle.text_bytes.specs.Text.{Text}
 use Rattle.json.specs.Json.{Json}
 use Rattle.text_json.specs.Told.{told_text}
 use Rattle.lsp_messages.specs.Offers.{offers_utf8}

@@ -1,6 +1,6 @@
 -- What the server says it can do.
 use Rattle.std.specs.Prelude.{[], ◌∷◌, codes, true}
-use Rattle.text_tables.specs.Texts.{Text}
+use Rattle.text_bytes.specs.Text.{Text}
 use Rattle.json.specs.Json.{Json, boolean, string}
 use Rattle.text_json.specs.Values.{array_of, number_value, object_of}
 use Rattle.lsp_texts.specs.declared.counting.Encoding.{Encoding}

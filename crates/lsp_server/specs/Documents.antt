@@ -1,7 +1,7 @@
 -- What comes of documents that are opened, changed and closed.
 use Rattle.std.specs.Prelude.{ℕ, ◌++◌, if◌then◌else◌, List, [], ◌∷◌, Option, Some, None, codes}
 use Rattle.text_tables.specs.Pairs.{value_of, with_value, without_name}
-use Rattle.text_tables.specs.Texts.{Text}
+use Rattle.text_bytes.specs.Text.{Text}
 use Rattle.json.specs.Json.{Json}
 use Rattle.text_json.specs.Told.{told}
 use Rattle.text_json.specs.Values.{array_of, number_value, object_of}

@@ -1,6 +1,6 @@
 -- What is said about requests that are not answered.
 use Rattle.std.specs.Prelude.{Option, codes}
-use Rattle.text_tables.specs.Texts.{Text}
+use Rattle.text_bytes.specs.Text.{Text}
 use Rattle.json.specs.Json.{Json}
 use Rattle.lsp_messages.specs.Responses.{error_of}
 use Rattle.lsp_messages.specs.declared.errors.ErrorCode.{ErrorCode}

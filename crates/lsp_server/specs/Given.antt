@@ -1,6 +1,6 @@
 -- For proofs only: what a call gives of a step.
 use Rattle.std.specs.Prelude.{◌≡◌, [], Option, Some, None, option_map}
-use Rattle.text_tables.specs.Texts.{Text}
+use Rattle.text_bytes.specs.Text.{Text}
 use Rattle.json.specs.Json.{Json}
 use Rattle.json.specs.Print.{print}
 use Rattle.json.specs.Tree.{json_tokens}

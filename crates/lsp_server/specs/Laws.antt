@@ -1,6 +1,6 @@
 -- What laws say of what a server sends.
 use Rattle.std.specs.Prelude.{◌≡◌, ◌⊎◌, List, [], ◌∷◌, fold, Option, Some, codes}
-use Rattle.text_tables.specs.Texts.{Text}
+use Rattle.text_bytes.specs.Text.{Text}
 use Rattle.json.specs.Json.{Json}
 use Rattle.lsp_sessions.specs.declared.frames.Item.{Item}
 use Rattle.lsp_messages.specs.Parameters.{OpenedValue, version_of}

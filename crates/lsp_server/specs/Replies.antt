@@ -1,6 +1,6 @@
 -- What the server replies to each frame.
 use Rattle.std.specs.Prelude.{if◌then◌else◌, [], Option, Some, None}
-use Rattle.text_tables.specs.Texts.{Text}
+use Rattle.text_bytes.specs.Text.{Text}
 use Rattle.json.specs.Json.{Json}
 use Rattle.json.specs.Print.{print}
 use Rattle.json.specs.Tree.{json_tokens}

@@ -1,6 +1,6 @@
 -- The state of a server, and what comes of a content.
 use Rattle.std.specs.Prelude.{List, [], Option, Some, None}
-use Rattle.text_tables.specs.Texts.{Text}
+use Rattle.text_bytes.specs.Text.{Text}
 use Rattle.json.specs.Json.{Json}
 use Rattle.lsp_settings.specs.Settings.{Settings, strict}
 use Rattle.lsp_texts.specs.declared.documents.Document.{Document}

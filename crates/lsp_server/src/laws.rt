@@ -2,7 +2,8 @@
 ghost use Rattle.std.specs.Prelude.{◌≡◌, List, None, Ok, Option, Some, codes, false, true};
 ghost use Rattle.std.specs.Str.{bytes_eq};
 ghost use Rattle.text_tables.specs.Pairs.{value_of, with_value, without_name};
-ghost use Rattle.text_tables.specs.Texts.{Text, is_among, same_text};
+ghost use Rattle.text_bytes.specs.Text.{Text};
+ghost use Rattle.text_tables.specs.Texts.{is_among, same_text};
 ghost use Rattle.json.specs.Json.{Json};
 ghost use Rattle.lsp_answers.specs.Answers.{answer};
 ghost use Rattle.lsp_answers.specs.Queries.{QueryValue, query_of};

@@ -1,7 +1,7 @@
 -- Turn after turn over an input.
 use Rattle.std.proofs.Common.{◌≡◌, ℕ, ◌+◌, inl, inr, true, Option, Some, None, List, [], ◌∷◌, ◌++◌, Ok, Err, length, refl, ap, sym, ◌∙◌, subst, length-append}
 use Rattle.std.proofs.lemmas.List.{append-nil}
-use Rattle.text_tables.specs.Texts.{Text}
+use Rattle.text_bytes.specs.Text.{Text}
 use Rattle.engine_ends.specs.Reported.{followed_by, led_by}
 use Rattle.engine_ends.specs.Counts.{Counts}
 use Rattle.engine_ends.specs.Sources.{SourceState}

@@ -1,7 +1,7 @@
 -- What is said to items, one after another.
 use Rattle.std.proofs.Common.{◌≡◌, Option, Some, None, List, [], ◌∷◌, ◌++◌, refl, ap, sym, ◌∙◌, append_assoc}
 use Rattle.std.proofs.lemmas.List.{append-nil}
-use Rattle.text_tables.specs.Texts.{Text}
+use Rattle.text_bytes.specs.Text.{Text}
 use Rattle.lsp_sessions.specs.Held.{start}
 use Rattle.lsp_sessions.specs.Items.{held_after, items, items_after}
 use Rattle.lsp_sessions.specs.declared.frames.Item.{Item}

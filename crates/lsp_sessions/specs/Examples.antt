@@ -1,6 +1,6 @@
 -- For examples: a small server.
 use Rattle.std.specs.Prelude.{ℕ, ◌+◌, ◌==◌, if◌then◌else◌, Some, None, codes}
-use Rattle.text_tables.specs.Texts.{Text}
+use Rattle.text_bytes.specs.Text.{Text}
 use Rattle.lsp_sessions.specs.declared.frames.Item.{Item}
 use Rattle.lsp_sessions.specs.declared.frames.Item.TheVariants as item
 use Rattle.lsp_sessions.specs.declared.replying.Exit.TheVariants.{AfterShutdown}

@@ -1,13 +1,14 @@
 -- For laws: which texts go before a frame, and how much is held.
-use Rattle.std.specs.Prelude.{◌≢◌, ℕ, ◌+◌, ◌<◌, ◌≤◌, List, length}
+use Rattle.std.specs.Prelude.{◌≢◌, ◌+◌, ◌<◌, ◌≤◌, length}
 use Rattle.std.specs.List.{AllByRecursion}
+use Rattle.text_bytes.specs.Text.{Text}
 use Rattle.text_bytes.specs.Names.{newline}
 use Rattle.lsp_sessions.specs.Held.{Held}
 use Rattle.lsp_sessions.specs.Held.Held.{Header, Content, Passing}
 use Rattle.lsp_sessions.specs.Items.{most_content, most_header}
 
 -- no byte of the text is a newline
-abbrev pub HasNoNewline : List ℕ → Type 0
+abbrev pub HasNoNewline : Text → Type 0
 HasNoNewline text = AllByRecursion (λ byte. byte ≢ newline) text
 
 -- No more is held than a header part or a content may have.

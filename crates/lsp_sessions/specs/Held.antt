@@ -1,13 +1,14 @@
 -- What is held of frames between two bytes.
-use Rattle.std.specs.Prelude.{ℕ, List, []}
+use Rattle.std.specs.Prelude.{ℕ, []}
+use Rattle.text_bytes.specs.Text.{Text}
 use Rattle.lsp_sessions.specs.declared.frames.Phase.{Phase}
 use Rattle.lsp_sessions.specs.declared.frames.Phase.TheVariants as phase
 
 -- The bytes of a header part that has not ended; how many bytes of a content are still to come, and those that came; how many bytes are
 -- still to be passed over.
 pub data Held : Type 0 where
-  Header : List ℕ → Held
-  Content : ℕ → List ℕ → Held
+  Header : Text → Held
+  Content : ℕ → Text → Held
   Passing : ℕ → Held
 
 -- nothing yet
@@ -15,7 +16,7 @@ abbrev pub start : Held
 start = Header []
 
 -- what is held, by the phase and the bytes
-abbrev pub held_in : Phase → List ℕ → Held
+abbrev pub held_in : Phase → Text → Held
 held_in phase.Header bytes = Header bytes
 held_in (phase.Content missing) bytes = Content missing bytes
 held_in (phase.Passing left) bytes = Passing left

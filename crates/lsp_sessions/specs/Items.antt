@@ -1,6 +1,7 @@
 -- What is read of a text, byte by byte.
 use Rattle.std.specs.Prelude.{ℕ, ◌-◌, ◌==◌, List, [], ◌∷◌, ◌++◌, Option, Some, None, if◌then◌else◌, length, nat_le, nat_lt}
 use Rattle.std.specs.Option.{option_to_list}
+use Rattle.text_bytes.specs.Text.{Text}
 use Rattle.lsp_sessions.specs.Headers.{content_length, is_ended}
 use Rattle.lsp_sessions.specs.Held.{Held, start}
 use Rattle.lsp_sessions.specs.Held.Held.{Header, Content, Passing}
@@ -38,14 +39,14 @@ headed (Some size) =
     else holds (Content size [])
 
 -- after the bytes of a header part: it has ended, or it is too long, or it goes on
-abbrev pub header_taken : List ℕ → Taken
+abbrev pub header_taken : Text → Taken
 header_taken header =
     if is_ended header then headed (content_length header)
     else if nat_le most_header (length header) then completes item.NoFrame
     else holds (Header header)
 
 -- after the bytes of a content, of which so many were still to come before the last of them
-abbrev pub content_taken : ℕ → List ℕ → Taken
+abbrev pub content_taken : ℕ → Text → Taken
 content_taken missing content = if nat_le missing 1 then completes (item.Content content) else holds (Content (missing - 1) content)
 
 -- after a byte that is passed over, by how many there were to pass over before it
@@ -59,15 +60,15 @@ taken (Content missing content) byte = content_taken missing (content ++ byte �
 taken (Passing left) byte = passed left
 
 -- what is held after a text
-abbrev pub held_after : Held → List ℕ → Held
+abbrev pub held_after : Held → Text → Held
 held_after held [] = held
 held_after held (byte ∷ text) = held_after (taken held byte).held text
 
 -- the items that the bytes of a text complete, in order
-abbrev pub items_after : Held → List ℕ → List Item
+abbrev pub items_after : Held → Text → List Item
 items_after held [] = []
 items_after held (byte ∷ text) = option_to_list (taken held byte).item ++ items_after (taken held byte).held text
 
 -- the items of a text from its start
-abbrev pub items : List ℕ → List Item
+abbrev pub items : Text → List Item
 items text = items_after start text

@@ -1,6 +1,6 @@
 -- The outcome of a session.
 use Rattle.std.specs.Prelude.{ℕ, Option, Some, None}
-use Rattle.text_tables.specs.Texts.{Text}
+use Rattle.text_bytes.specs.Text.{Text}
 use Rattle.engine_ends.specs.Delivery.{RunOutcome}
 use Rattle.lsp_sessions.specs.Servers.{Said, Server, said_of}
 use Rattle.lsp_sessions.specs.declared.replying.Exit.{Exit}

@@ -1,6 +1,6 @@
 -- What a server says to the items that a client sends.
 use Rattle.std.specs.Prelude.{◌≡◌, List, [], ◌∷◌, ◌++◌, Option, Some, None}
-use Rattle.text_tables.specs.Texts.{Text}
+use Rattle.text_bytes.specs.Text.{Text}
 use Rattle.lsp_sessions.specs.Items.{items}
 use Rattle.lsp_sessions.specs.declared.frames.Item.{Item}
 use Rattle.lsp_sessions.specs.declared.replying.Exit.{Exit}

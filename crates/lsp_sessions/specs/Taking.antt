@@ -1,6 +1,6 @@
 -- For proofs only, no reader has to believe it: how bytes are taken, and what is said to the items that they complete.
 use Rattle.std.specs.Prelude.{◌≡◌, ◌++◌, Option, Some, None}
-use Rattle.text_tables.specs.Texts.{Text}
+use Rattle.text_bytes.specs.Text.{Text}
 use Rattle.engine_ends.specs.Sinks.{BreaksOff, SinkState}
 use Rattle.engine_sessions.specs.Serves.{WritesOut}
 use Rattle.lsp_sessions.specs.Held.{Held, start}

@@ -1,6 +1,7 @@
 //! What is true of frames. Each law is the contract of a function with an empty body.
-ghost use Rattle.std.specs.Prelude.{◌≡◌, ℕ, ◌+◌, ◌^◌, ◌<◌, ◌≤◌, List, [], ◌∷◌, ◌++◌, codes, flat_map, length, map};
+ghost use Rattle.std.specs.Prelude.{◌≡◌, ◌+◌, ◌^◌, ◌<◌, ◌≤◌, List, [], ◌∷◌, ◌++◌, codes, flat_map, length, map};
 ghost use Rattle.std.specs.List.{AllByRecursion};
+ghost use Rattle.text_bytes.specs.Text.{Text};
 ghost use Rattle.lsp_sessions.specs.Framed.{framed};
 ghost use Rattle.lsp_sessions.specs.Held.{Held, start};
 ghost use Rattle.lsp_sessions.specs.Items.{held_after, items, items_after, most_content};
@@ -9,34 +10,34 @@ ghost use Rattle.lsp_sessions.specs.declared.frames.Item.TheVariants as item;
 
 /// In which pieces a text is read changes nothing: what is held after a text is all that counts for the text that follows.
 pub fn pieces_do_not_count()
-    ensures held { (held : Held) (first second : List ℕ) → held_after held (first ++ second) ≡ held_after (held_after held first) second }
-    ensures items { (held : Held) (first second : List ℕ) → items_after held (first ++ second)
+    ensures held { (held : Held) (first second : Text) → held_after held (first ++ second) ≡ held_after (held_after held first) second }
+    ensures items { (held : Held) (first second : Text) → items_after held (first ++ second)
         ≡ items_after held first ++ items_after (held_after held first) second }
 {}
 
 /// Contents that are framed, one after another, are read back, and nothing is held after them.
 pub fn what_is_framed_is_read_back()
-    ensures items { (contents : List (List ℕ)) → AllByRecursion (λ content. length content ≤ most_content) contents
+    ensures items { (contents : List Text) → AllByRecursion (λ content. length content ≤ most_content) contents
         → items (flat_map framed contents) ≡ map item.Content contents }
-    ensures held { (contents : List (List ℕ)) → AllByRecursion (λ content. length content ≤ most_content) contents
+    ensures held { (contents : List Text) → AllByRecursion (λ content. length content ≤ most_content) contents
         → held_after start (flat_map framed contents) ≡ start }
 {}
 
 /// What stands before a frame in its first line is lost, and nothing else.
 pub fn what_stands_before_a_frame_is_skipped()
-    ensures { (before content later : List ℕ) → HasNoNewline before → length before ≤ 4000
+    ensures { (before content later : Text) → HasNoNewline before → length before ≤ 4000
         → length content ≤ most_content → items (before ++ framed content ++ later) ≡ item.Content content ∷ items later }
 {}
 
 /// A content that is too long is reported once, and as many bytes as its header part gives are passed over.
 pub fn a_content_too_long_is_passed_over()
-    ensures { (content later : List ℕ) → most_content < length content → length content < 2 ^ 32
+    ensures { (content later : Text) → most_content < length content → length content < 2 ^ 32
         → items (framed content ++ later) ≡ item.TooLong ∷ items later }
 {}
 
 /// Whatever is read, no more is held than a header part or a content may have.
 pub fn little_is_held()
-    ensures { (text : List ℕ) → HoldsLittle (held_after start text) }
+    ensures { (text : Text) → HoldsLittle (held_after start text) }
 {}
 
 /// How header parts are read.

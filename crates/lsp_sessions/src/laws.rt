@@ -1,7 +1,7 @@
 //! What is true of sessions. Each law is the contract of a function with an empty body.
 ghost use Rattle.std.specs.Prelude.{◌≡◌, ◌≤◌, List, ◌++◌, None, Some, codes, flat_map, length, map};
 ghost use Rattle.std.specs.List.{AllByRecursion};
-ghost use Rattle.text_tables.specs.Texts.{Text};
+ghost use Rattle.text_bytes.specs.Text.{Text};
 ghost use Rattle.lsp_sessions.specs.Framed.{framed};
 ghost use Rattle.lsp_sessions.specs.Items.{most_content};
 ghost use Rattle.lsp_sessions.specs.declared.frames.Item.TheVariants as item;

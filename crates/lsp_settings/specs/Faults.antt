@@ -1,6 +1,6 @@
 -- For proofs only: how a fault answers words.
 use Rattle.std.specs.Prelude.{◌≡◌, Result, Err}
-use Rattle.text_tables.specs.Texts.{Text}
+use Rattle.text_bytes.specs.Text.{Text}
 use Rattle.lsp_settings.specs.Settings.{Settings}
 use Rattle.lsp_settings.specs.declared.options.SettingsFault.{SettingsFault}
 use Rattle.lsp_settings.specs.declared.options.SettingsFault.TheVariants.{Memory, Words}

@@ -3,7 +3,8 @@ use Rattle.std.specs.Prelude.{Bool, ◌||◌, not, nat_eq, if◌then◌else◌, 
 use Rattle.std.specs.List.{filter_map, starts_with}
 use Rattle.std.specs.Option.{option_map_or}
 use Rattle.text_bytes.specs.declared.profile.Profile.TheVariants.{Manual, Udev}
-use Rattle.text_tables.specs.Texts.{Text, is_among}
+use Rattle.text_bytes.specs.Text.{Text}
+use Rattle.text_tables.specs.Texts.{is_among}
 use Rattle.devdry_options.specs.Words.{is_word}
 use Rattle.engine_ends.specs.Places.{word_part}
 use Rattle.engine_formats.specs.Ignored.{ignored_codes, unknown_ignored}

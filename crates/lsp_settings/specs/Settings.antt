@@ -2,7 +2,8 @@
 use Rattle.std.specs.Prelude.{Bool, true, false, List, [], None}
 use Rattle.text_bytes.specs.declared.profile.Profile.{Profile}
 use Rattle.text_bytes.specs.declared.profile.Profile.TheVariants.{Manual, Udev}
-use Rattle.text_tables.specs.Texts.{Text, with_texts}
+use Rattle.text_bytes.specs.Text.{Text}
+use Rattle.text_tables.specs.Texts.{with_texts}
 use Rattle.rule_pairs.specs.Accounts.{Accounts}
 use Rattle.engine_checks.specs.Reported.{Asked}
 

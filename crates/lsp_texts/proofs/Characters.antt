@@ -5,7 +5,7 @@ use Rattle.std.proofs.Math.Utf8.{encode, encodes}
 use Rattle.std.proofs.lemmas.List.Sums.{sum_by-append}
 use Rattle.std.proofs.lemmas.Str.{IsUtf8-append, IsUtf8-drop, IsUtf8-take}
 use Rattle.std.specs.Str.{IsCharBoundary, IsUtf8}
-use Rattle.text_tables.specs.Texts.{Text}
+use Rattle.text_bytes.specs.Text.{Text}
 use Rattle.lsp_texts.specs.ChangeValues.{ChangeValue}
 use Rattle.lsp_texts.specs.Changes.{changed}
 use Rattle.lsp_texts.specs.Places.{IsPlace}

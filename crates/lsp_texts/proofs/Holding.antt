@@ -7,7 +7,8 @@ use Rattle.std.specs.Map.{lookup, remove_entry}
 use Rattle.indexmap.specs.IndexMap.{insert_entry}
 use Rattle.text_tables.proofs.Held.{is_text, removed_name, same, seen, set}
 use Rattle.text_tables.proofs.Found.{value_removed, value_set}
-use Rattle.text_tables.specs.Texts.{Text, same_text}
+use Rattle.text_bytes.specs.Text.{Text}
+use Rattle.text_tables.specs.Texts.{same_text}
 use Rattle.text_tables.specs.Pairs.{value_of, with_value, without_name}
 use Rattle.lsp_texts.specs.Documents.{bytes_of, may_be_held, with_document}
 use Rattle.lsp_texts.specs.declared.documents.Document.{Document}

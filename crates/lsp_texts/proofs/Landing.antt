@@ -6,7 +6,7 @@ use Rattle.std.proofs.lemmas.List.Sums.{count_by-le-length, prefix_len-le-length
 use Rattle.std.specs.List.{prefix_len}
 use Rattle.text_bytes.specs.Numbers.{capped}
 use Rattle.text_bytes.specs.Texts.{begins_with}
-use Rattle.text_tables.specs.Texts.{Text}
+use Rattle.text_bytes.specs.Text.{Text}
 use Rattle.lsp_texts.specs.Places.{IsPlace}
 use Rattle.lsp_texts.specs.Rows.{is_inside, line_of, offset_of, position_of, row_at, start_of}
 use Rattle.lsp_texts.specs.Starts.{ends_row, starts, starts_from}

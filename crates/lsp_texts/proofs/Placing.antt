@@ -5,7 +5,7 @@ use Rattle.std.proofs.lemmas.List.{append-nil, take-append-drop}
 use Rattle.std.proofs.lemmas.List.Folds.{length-prefix_len}
 use Rattle.std.proofs.lemmas.List.Sums.{prefix_len-le-length, take_while-cons}
 use Rattle.std.specs.List.{concat, prefix_len, take_while}
-use Rattle.text_tables.specs.Texts.{Text}
+use Rattle.text_bytes.specs.Text.{Text}
 use Rattle.lsp_texts.specs.Rows.{is_inside, offset_of, row_at, start_of}
 use Rattle.lsp_texts.specs.Starts.{ends_row, starts, starts_from}
 use Rattle.lsp_texts.specs.Units.{fitting}

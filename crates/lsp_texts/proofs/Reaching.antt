@@ -3,7 +3,7 @@ use Rattle.std.proofs.Common.{◌≡◌, ℕ, zero, suc, ◌+◌, ◌-◌, ◌<�
 use Rattle.std.proofs.lemmas.List.Sums.{sum_by-cons}
 use Rattle.std.specs.List.{count_by}
 use Rattle.text_bytes.specs.Texts.{begins_with}
-use Rattle.text_tables.specs.Texts.{Text}
+use Rattle.text_bytes.specs.Text.{Text}
 use Rattle.lsp_texts.specs.Rows.{is_inside}
 use Rattle.lsp_texts.specs.Starts.{ends_row, starts_from}
 use Rattle.lsp_texts.proofs.Starting.{AreWithin, starts_within}

@@ -1,6 +1,6 @@
 -- What a change is.
 use Rattle.std.specs.Prelude.{Option}
-use Rattle.text_tables.specs.Texts.{Text}
+use Rattle.text_bytes.specs.Text.{Text}
 use Rattle.lsp_texts.specs.declared.rows.Position.{Position}
 
 -- a text in place of what is in a range, or of all

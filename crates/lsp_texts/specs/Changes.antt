@@ -1,6 +1,6 @@
 -- Changes of a text.
 use Rattle.std.specs.Prelude.{ℕ, ◌++◌, max, List, fold, take, drop, Option, Some, None}
-use Rattle.text_tables.specs.Texts.{Text}
+use Rattle.text_bytes.specs.Text.{Text}
 use Rattle.lsp_texts.specs.ChangeValues.{ChangeValue}
 use Rattle.lsp_texts.specs.Rows.{offset_of}
 use Rattle.lsp_texts.specs.declared.counting.Encoding.{Encoding}

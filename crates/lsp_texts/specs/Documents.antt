@@ -1,6 +1,6 @@
 -- The documents that are open.
 use Rattle.std.specs.Prelude.{ℕ, Bool, ◌&&◌, nat_le, List, length, sum_by, if◌then◌else◌}
-use Rattle.text_tables.specs.Texts.{Text}
+use Rattle.text_bytes.specs.Text.{Text}
 use Rattle.text_tables.specs.Pairs.{with_value, without_name}
 use Rattle.lsp_texts.specs.declared.documents.Document.{Document}
 

@@ -1,6 +1,6 @@
 -- A text for examples.
 use Rattle.std.specs.Prelude.{◌∷◌, ◌++◌, codes}
-use Rattle.text_tables.specs.Texts.{Text}
+use Rattle.text_bytes.specs.Text.{Text}
 
 -- two rows; the second has U+1F600, four bytes of UTF-8, between two letters
 abbrev pub two_rows : Text

@@ -1,7 +1,7 @@
 -- The places of a text that positions name.
 use Rattle.std.specs.Prelude.{◌≡◌, ◌≢◌, ℕ, ◌-◌, ◌<◌, ◌≤◌, false, length, slice_index}
 use Rattle.text_bytes.specs.Names.{carriage_return, newline}
-use Rattle.text_tables.specs.Texts.{Text}
+use Rattle.text_bytes.specs.Text.{Text}
 use Rattle.lsp_texts.specs.Units.{is_within}
 
 -- A place of a text: not within a character, and not between a carriage return and its newline.

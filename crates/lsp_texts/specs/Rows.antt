@@ -3,7 +3,7 @@ use Rattle.std.specs.Prelude.{ℕ, ◌+◌, ◌-◌, ◌==◌, Bool, not, ◌||�
 use Rattle.std.specs.Prelude.{length, take, drop, take_while, count_by, map, slice_index_or}
 use Rattle.text_bytes.specs.Names.{carriage_return, newline}
 use Rattle.text_bytes.specs.Numbers.{capped}
-use Rattle.text_tables.specs.Texts.{Text}
+use Rattle.text_bytes.specs.Text.{Text}
 use Rattle.lsp_texts.specs.Starts.{starts}
 use Rattle.lsp_texts.specs.Units.{fitting, units}
 use Rattle.lsp_texts.specs.declared.counting.Encoding.{Encoding}

@@ -1,6 +1,6 @@
 -- The units in which characters are counted.
 use Rattle.std.specs.Prelude.{ℕ, suc, ◌-◌, Bool, ◌&&◌, nat_le, nat_lt, [], ◌∷◌, sum_by, if◌then◌else◌}
-use Rattle.text_tables.specs.Texts.{Text}
+use Rattle.text_bytes.specs.Text.{Text}
 use Rattle.lsp_texts.specs.declared.counting.Encoding.{Encoding}
 use Rattle.lsp_texts.specs.declared.counting.Encoding.TheVariants.{Utf8, Utf16}
 

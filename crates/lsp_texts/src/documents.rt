@@ -31,11 +31,12 @@ pub struct Documents {
 }
 
 impl Model for Documents {
-    ghost use Rattle.std.specs.Prelude.{◌≡◌, List, ℕ, map, true};
+    ghost use Rattle.std.specs.Prelude.{◌≡◌, List, map, true};
+    ghost use Rattle.text_bytes.specs.Text.{Text};
     ghost use Rattle.lsp_texts.specs.declared.documents.Document.{Document};
     ghost use Rattle.lsp_texts.specs.Documents.{may_be_held};
 
-    ghost Value = { List (List ℕ × Document) };
+    ghost Value = { List (Text × Document) };
 
     ghost view = { λ d. map (λ e. (e.0.items, e.1)) d.held.entries };
 

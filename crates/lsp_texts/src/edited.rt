@@ -25,7 +25,7 @@ struct Edited<'t> {
 
 impl<'t> Model for Edited<'t> {
     ghost use Rattle.std.specs.List.{concat};
-    ghost use Rattle.text_tables.specs.Texts.{Text};
+    ghost use Rattle.text_bytes.specs.Text.{Text};
     ghost use Rattle.lsp_texts.specs.Whole.{AreWhole, in_order};
 
     ghost Value = { Text };

@@ -5,7 +5,8 @@ ghost use Rattle.std.specs.Prelude.{◌≡◌, ◌≤◌, ◌<◌, ◌+◌, ◌-
 ghost use Rattle.std.specs.Prelude.{codes, drop, flat_map, length, slice_index, take};
 ghost use Rattle.std.specs.Char.Escape.{encode_utf16};
 ghost use Rattle.std.specs.Str.{IsUtf8, encode_utf8_all};
-ghost use Rattle.text_tables.specs.Texts.{Text, same_text};
+ghost use Rattle.text_bytes.specs.Text.{Text};
+ghost use Rattle.text_tables.specs.Texts.{same_text};
 ghost use Rattle.text_tables.specs.Pairs.{value_of, with_value};
 ghost use Rattle.lsp_texts.specs.ChangeValues.{ChangeValue};
 ghost use Rattle.lsp_texts.specs.Changes.{changed};

@@ -28,7 +28,7 @@ pub struct Rows<'t> {
 
 impl<'t> Model for Rows<'t> {
     ghost use Rattle.std.specs.Prelude.{◌≡◌};
-    ghost use Rattle.text_tables.specs.Texts.{Text};
+    ghost use Rattle.text_bytes.specs.Text.{Text};
     ghost use Rattle.lsp_texts.specs.Starts.{starts};
 
     ghost Value = { Text };

@@ -15,7 +15,7 @@ pub(crate) struct Row<'t> {
 
 impl<'t> Model for Row<'t> {
     ghost use Rattle.std.specs.Cow.{cow_slice_items};
-    ghost use Rattle.text_tables.specs.Texts.{Text};
+    ghost use Rattle.text_bytes.specs.Text.{Text};
 
     ghost Value = { Text };
 
@@ -61,7 +61,7 @@ pub(crate) struct WholeRows<'t> {
 
 impl<'t> Model for WholeRows<'t> {
     ghost use Rattle.std.specs.Prelude.{List};
-    ghost use Rattle.text_tables.specs.Texts.{Text};
+    ghost use Rattle.text_bytes.specs.Text.{Text};
     ghost use Rattle.lsp_texts.specs.Whole.{whole_rows};
 
     ghost Value = { List Text };

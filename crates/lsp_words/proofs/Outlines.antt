@@ -8,7 +8,7 @@ use Rattle.text_bytes.specs.Names.{is_blank}
 use Rattle.text_bytes.specs.Texts.{first, is_empty, trimmed}
 use Rattle.text_bytes.specs.declared.source_file.FileKind.{FileKind}
 use Rattle.text_bytes.specs.declared.source_file.FileKind.TheVariants.{Hwdb, Rules}
-use Rattle.text_tables.specs.Texts.{Text}
+use Rattle.text_bytes.specs.Text.{Text}
 use Rattle.rule_tokens.specs.Grammar.{Item}
 use Rattle.lsp_words.specs.Marks.{mark_kind}
 use Rattle.lsp_words.specs.Rows.{body, is_comment, items_in, stripped}

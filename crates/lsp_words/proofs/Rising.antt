@@ -5,7 +5,7 @@ use Rattle.std.specs.Prelude.{All, Contains, IfSome, if◌then◌else◌, option
 use Rattle.std.specs.List.{find}
 use Rattle.std.proofs.lemmas.List.Elements.{All-nil, All-append, All-contains, All-head, All-tail, All-weaker}
 use Rattle.text_bytes.specs.Numbers.{capped}
-use Rattle.text_tables.specs.Texts.{Text}
+use Rattle.text_bytes.specs.Text.{Text}
 use Rattle.rule_tokens.specs.Grammar.{Item, Placed}
 use Rattle.lsp_words.specs.Jumps.{definition_of, is_goal}
 use Rattle.lsp_words.specs.MarkLaws.{IsGoalOf}

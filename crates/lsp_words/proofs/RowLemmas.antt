@@ -7,7 +7,7 @@ use Rattle.std.proofs.lemmas.List.{append-nil, drop_all, length-drop, take-appen
 use Rattle.std.proofs.lemmas.List.Folds.{list_all-append}
 use Rattle.text_bytes.specs.Names.{backslash, is_blank}
 use Rattle.text_bytes.specs.Texts.{ends_in, unindented}
-use Rattle.text_tables.specs.Texts.{Text}
+use Rattle.text_bytes.specs.Text.{Text}
 use Rattle.lsp_words.specs.Rows.{body, is_comment}
 
 -- what may stay of a row is its front

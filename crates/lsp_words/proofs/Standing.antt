@@ -8,7 +8,7 @@ use Rattle.std.proofs.lemmas.Bool.Decides.{Decides-eqb}
 use Rattle.std.proofs.lemmas.List.{length-append, length-drop}
 use Rattle.std.proofs.lemmas.List.Elements.{Contains-append_right}
 use Rattle.std.proofs.lemmas.Slice.Eq.{starts_is}
-use Rattle.text_tables.specs.Texts.{Text}
+use Rattle.text_bytes.specs.Text.{Text}
 use Rattle.lsp_words.specs.Entries.{Row, entry_at, fits, is_open}
 use Rattle.lsp_words.specs.Meanings.{Found, IsTold, meaning_in, size_of, told}
 use Rattle.lsp_words.specs.Shown.{shown}

@@ -6,7 +6,7 @@ use Rattle.std.specs.List.{cons_option, prefix_len}
 use Rattle.std.proofs.lemmas.List.Elements.{All-nil, All-cons, All-head, All-tail}
 use Rattle.std.proofs.lemmas.List.Sums.{prefix_len-le-length}
 use Rattle.text_bytes.specs.Names.{double_quote}
-use Rattle.text_tables.specs.Texts.{Text}
+use Rattle.text_bytes.specs.Text.{Text}
 use Rattle.rule_tokens.specs.Grammar.{Item, Placed, is_gap_byte}
 use Rattle.rule_tokens.specs.Lines.{items_after, items_from, items_left, items_within}
 use Rattle.rule_tokens.specs.Reading.{head_at, key_at, token_at}

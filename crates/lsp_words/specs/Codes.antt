@@ -7,7 +7,7 @@ use Rattle.text_bytes.specs.Numbers.{is_decimal}
 use Rattle.text_bytes.specs.Texts.{begins_with, unindented}
 use Rattle.text_bytes.specs.declared.source_file.FileKind.{FileKind}
 use Rattle.text_bytes.specs.declared.source_file.FileKind.TheVariants as file
-use Rattle.text_tables.specs.Texts.{Text}
+use Rattle.text_bytes.specs.Text.{Text}
 use Rattle.lsp_words.specs.declared.codes.CodeWord.{CodeWord}
 
 -- whether a word is written like a code: a capital letter and a number

@@ -1,7 +1,7 @@
 -- The words that can be completed at the end of some bytes of a row.
 use Rattle.std.specs.Prelude.{ℕ, List, Option, option_map}
 use Rattle.text_bytes.specs.declared.source_file.FileKind.{FileKind}
-use Rattle.text_tables.specs.Texts.{Text}
+use Rattle.text_bytes.specs.Text.{Text}
 use Rattle.lsp_words.specs.Entries.{Row}
 use Rattle.lsp_words.specs.Slots.{slot_of}
 use Rattle.lsp_words.specs.Tables.{entries_of}

@@ -3,7 +3,7 @@ use Rattle.std.specs.Prelude.{ℕ, Bool, ◌&&◌, ◌||◌, ◌==◌, nat_lt, [
 use Rattle.std.specs.List.{list_any}
 use Rattle.text_bytes.specs.Names.{dollar}
 use Rattle.text_bytes.specs.Texts.{begins_with, is_empty}
-use Rattle.text_tables.specs.Texts.{Text}
+use Rattle.text_bytes.specs.Text.{Text}
 use Rattle.rule_tokens.specs.Letters.{letter_e}
 use Rattle.lsp_words.specs.Classes.{class_of}
 use Rattle.lsp_words.specs.Moves.{go, in_braces, in_escape, in_indent, in_inner, in_later, in_name, in_value, outside}

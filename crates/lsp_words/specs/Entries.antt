@@ -4,7 +4,7 @@ use Rattle.std.specs.Borrow.{Bor}
 use Rattle.std.specs.List.{flat_map, starts_with}
 use Rattle.text_bytes.specs.Names.{colon, dollar, equals, percent, underscore}
 use Rattle.text_bytes.specs.Texts.{begins_with, ends_in}
-use Rattle.text_tables.specs.Texts.{Text}
+use Rattle.text_bytes.specs.Text.{Text}
 
 -- a word and what is told about it
 pub record Row : Type 0 where

@@ -1,6 +1,6 @@
 -- Words for the laws.
 use Rattle.std.specs.Prelude.{List, [], ◌∷◌, codes, map}
-use Rattle.text_tables.specs.Texts.{Text}
+use Rattle.text_bytes.specs.Text.{Text}
 use Rattle.rule_tokens.specs.declared.kinds.Operator.{Operator}
 use Rattle.rule_tokens.specs.declared.kinds.Operator.TheVariants.{Equal, NotEqual, Add, Remove, AssignFinal, Assign}
 use Rattle.rule_types.specs.declared.types.RunType.{RunType}

@@ -1,6 +1,6 @@
 -- Marks, written short for examples.
 use Rattle.std.specs.Prelude.{ℕ, List, [], ◌∷◌, codes}
-use Rattle.text_tables.specs.Texts.{Text}
+use Rattle.text_bytes.specs.Text.{Text}
 use Rattle.lsp_words.specs.MarkValues.{MarkValue}
 use Rattle.lsp_words.specs.declared.marks.MarkKind.TheVariants.{Label, Goto}
 

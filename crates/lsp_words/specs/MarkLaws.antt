@@ -1,7 +1,7 @@
 -- What is true of marks.
 use Rattle.std.specs.Prelude.{◌≡◌, ◌+◌, ◌-◌, ◌<◌, [], ◌∷◌, ◌++◌, length, take, drop}
 use Rattle.text_bytes.specs.Names.{double_quote}
-use Rattle.text_tables.specs.Texts.{Text}
+use Rattle.text_bytes.specs.Text.{Text}
 use Rattle.lsp_words.specs.MarkValues.{MarkValue}
 use Rattle.lsp_words.specs.declared.marks.MarkKind.TheVariants.{Label}
 

@@ -1,6 +1,6 @@
 -- What a mark is.
 use Rattle.std.specs.Prelude.{ℕ}
-use Rattle.text_tables.specs.Texts.{Text}
+use Rattle.text_bytes.specs.Text.{Text}
 use Rattle.lsp_words.specs.declared.marks.MarkKind.{MarkKind}
 
 -- A label or a jump: the row in which its rule begins, its own row, where its name begins and ends there, and its name.

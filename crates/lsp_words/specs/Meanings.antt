@@ -4,7 +4,7 @@ use Rattle.std.specs.List.{prefix_len}
 use Rattle.std.specs.Option.{option_and_then}
 use Rattle.text_bytes.specs.Names.{bar, close_brace, double_quote, equals, is_blank}
 use Rattle.text_bytes.specs.declared.source_file.FileKind.{FileKind}
-use Rattle.text_tables.specs.Texts.{Text}
+use Rattle.text_bytes.specs.Text.{Text}
 use Rattle.rule_tokens.specs.Grammar.{is_key_byte}
 use Rattle.lsp_words.specs.Classes.{is_operator_byte}
 use Rattle.lsp_words.specs.Entries.{Row, entry_at}

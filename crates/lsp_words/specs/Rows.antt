@@ -3,7 +3,7 @@ use Rattle.std.specs.Prelude.{ℕ, ◌-◌, Bool, List, [], take, drop, if◌the
 use Rattle.std.specs.List.{prefix_len}
 use Rattle.text_bytes.specs.Names.{backslash, hash}
 use Rattle.text_bytes.specs.Texts.{begins_with, ends_in, trimmed, unindented, without_last}
-use Rattle.text_tables.specs.Texts.{Text}
+use Rattle.text_bytes.specs.Text.{Text}
 use Rattle.rule_tokens.specs.Grammar.{Item, is_gap_byte}
 use Rattle.rule_tokens.specs.Lines.{items_from}
 

@@ -1,6 +1,6 @@
 -- How far a row is read, as the code has it.
 use Rattle.std.specs.Prelude.{drop}
-use Rattle.text_tables.specs.Texts.{Text}
+use Rattle.text_bytes.specs.Text.{Text}
 use Rattle.lsp_words.specs.Contexts.{Context}
 use Rattle.lsp_words.specs.declared.contexts.Scan.{Scan}
 

@@ -6,7 +6,7 @@ use Rattle.text_bytes.specs.Numbers.{capped}
 use Rattle.text_bytes.specs.Texts.{begins_with, first, is_empty, trimmed, up_to}
 use Rattle.text_bytes.specs.declared.source_file.FileKind.{FileKind}
 use Rattle.text_bytes.specs.declared.source_file.FileKind.TheVariants.{Hwdb, Rules}
-use Rattle.text_tables.specs.Texts.{Text}
+use Rattle.text_bytes.specs.Text.{Text}
 use Rattle.rule_tokens.specs.Grammar.{Item, compares}
 use Rattle.lsp_words.specs.Marks.{mark_kind}
 use Rattle.lsp_words.specs.Rows.{between, body, goes_on_after, items_in, stripped}

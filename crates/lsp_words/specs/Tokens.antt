@@ -1,7 +1,7 @@
 -- The context within a token that is written as udev(7) says.
 use Rattle.std.specs.Prelude.{ℕ, ◌==◌, Bool, true, false, not, [], ◌∷◌, ◌++◌, Option}
 use Rattle.text_bytes.specs.Names.{close_brace, double_quote}
-use Rattle.text_tables.specs.Texts.{Text}
+use Rattle.text_bytes.specs.Text.{Text}
 use Rattle.rule_tokens.specs.Grammar.{attribute_bytes, attribute_text, operator_text}
 use Rattle.rule_tokens.specs.declared.kinds.Operator.{Operator}
 use Rattle.lsp_words.specs.Classes.{class_of}

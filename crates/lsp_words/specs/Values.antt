@@ -1,6 +1,7 @@
 -- What the value of a token is made of, by its key, what is in the braces, and its operator.
 use Rattle.std.specs.Prelude.{Bool, true, false, not, ◌||◌, Option, Some, None, codes}
-use Rattle.text_tables.specs.Texts.{Text, same_text}
+use Rattle.text_bytes.specs.Text.{Text}
+use Rattle.text_tables.specs.Texts.{same_text}
 use Rattle.rule_types.specs.Names.{import_type_of, key_of}
 use Rattle.rule_types.specs.declared.keys.Key.{Key}
 use Rattle.rule_types.specs.declared.keys.Key.TheVariants as key

@@ -3,7 +3,7 @@
 //! Each function here is empty: its contract is the law.
 ghost use Rattle.std.specs.Prelude.{◌≡◌, [], ◌∷◌, ◌++◌, ℕ, Option, Some, fold, length, map};
 ghost use Rattle.text_bytes.specs.Names.{dollar, percent};
-ghost use Rattle.text_tables.specs.Texts.{Text};
+ghost use Rattle.text_bytes.specs.Text.{Text};
 ghost use Rattle.rule_templates.specs.Names.{long_names, short_names};
 ghost use Rattle.rule_tokens.specs.Grammar.{AllAre, attribute_bytes, is_key_byte, operator_text};
 ghost use Rattle.rule_tokens.specs.declared.kinds.Operator.{Operator};

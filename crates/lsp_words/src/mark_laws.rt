@@ -7,7 +7,7 @@ ghost use Rattle.text_bytes.specs.Names.{hash, is_blank};
 ghost use Rattle.text_bytes.specs.Texts.{is_empty};
 ghost use Rattle.text_bytes.specs.declared.source_file.FileKind.{FileKind};
 ghost use Rattle.text_bytes.specs.declared.source_file.FileKind.TheVariants.{Hwdb, Rules};
-ghost use Rattle.text_tables.specs.Texts.{Text};
+ghost use Rattle.text_bytes.specs.Text.{Text};
 ghost use Rattle.lsp_words.specs.Jumps.{definition_of, references_of};
 ghost use Rattle.lsp_words.specs.MarkLaws.{IsGoalOf, IsWrittenIn};
 ghost use Rattle.lsp_words.specs.MarkValues.{MarkValue};

@@ -1,6 +1,7 @@
 -- A joined line read as a rule, before its jumps are followed.
 use Rattle.std.specs.Prelude.{ℕ, nat_lt, if◌then◌else◌, List, [], ◌∷◌, ◌++◌, filter_map, length, Option, Some, None, option_map, Result, Ok, Err}
 use Rattle.std.specs.List.{prefix_len}
+use Rattle.text_bytes.specs.Text.{Text}
 use Rattle.text_bytes.specs.Texts.{first, last}
 use Rattle.text_bytes.specs.declared.profile.Profile.{Profile}
 use Rattle.text_bytes.specs.declared.profile.Profile.TheVariants.{Manual, Udev}
@@ -35,12 +36,12 @@ pub record Draft : Type 0 where
   pub findings : List (Spot MessageKind)
 
 -- the place in a line where its tokens begin: udev skips commas and blanks in front
-abbrev pub first_place : Profile → List ℕ → ℕ
+abbrev pub first_place : Profile → Text → ℕ
 first_place Manual line = 0
 first_place Udev line = prefix_len is_gap_byte line
 
 -- the items of a line
-abbrev pub items_as : Profile → List ℕ → List Item
+abbrev pub items_as : Profile → Text → List Item
 items_as profile line = items_from (first_place profile line) line
 
 -- a token with the part of a rule that it is, or the finding about it
@@ -49,7 +50,7 @@ written_part t (Ok p) = Ok (record { token = t; part = p })
 written_part t (Err found) = Err (part_spot found.kind t)
 
 -- an item of a line as a token of a rule
-abbrev pub part_of_item : Profile → List ℕ → Item → Result WrittenPart (Spot MessageKind)
+abbrev pub part_of_item : Profile → Text → Item → Result WrittenPart (Spot MessageKind)
 part_of_item profile line (Ok t) = written_part t (part_of profile t)
 part_of_item profile line (Err fault) = Err (token_spot fault.kind fault.at line)
 
@@ -60,7 +61,7 @@ with_part (Ok w) (Err wrong) = Err wrong
 with_part (Err wrong) rest = Err wrong
 
 -- the tokens that are the items of a line, each with its part, or what is wrong with the first item that is none
-abbrev pub parts_of : Profile → List ℕ → List Item → Result (List WrittenPart) (Spot MessageKind)
+abbrev pub parts_of : Profile → Text → List Item → Result (List WrittenPart) (Spot MessageKind)
 parts_of profile line [] = Ok []
 parts_of profile line (i ∷ items) = with_part (part_of_item profile line i) (parts_of profile line items)
 
@@ -85,11 +86,11 @@ abbrev pub assignment_in : Part → Option Assignment
 assignment_in (part.Set a) = Some a
 assignment_in _ = None
 
-abbrev pub label_in : Part → Option (List ℕ)
+abbrev pub label_in : Part → Option Text
 label_in (part.Label name) = Some name
 label_in _ = None
 
-abbrev pub goto_in : Part → Option (List ℕ)
+abbrev pub goto_in : Part → Option Text
 goto_in (part.Goto name) = Some name
 goto_in _ = None
 
@@ -101,7 +102,7 @@ abbrev pub sets_of : Profile → List Part → List Assignment
 sets_of profile parts = assignments_by_turn profile (filter_map assignment_in parts)
 
 -- a name at the value of its token
-abbrev pub name_place : Placed → List ℕ → NamePlace
+abbrev pub name_place : Placed → Text → NamePlace
 name_place t name = record { name = name; start = value_start t; size = length t.parts.value }
 
 -- the name that a label gives, and that of a jump
@@ -150,7 +151,7 @@ given_again_after profile before [] = []
 given_again_after profile before (w ∷ parts) = again_in profile before w ++ given_again_after profile (before ++ w ∷ []) parts
 
 -- the draft of the tokens of a line: of several jumps the first counts
-abbrev pub draft : Profile → List ℕ → List WrittenPart → Draft
+abbrev pub draft : Profile → Text → List WrittenPart → Draft
 draft profile line parts = record {
   label = label_among profile (filter_map label_at parts);
   goto = first (filter_map goto_at parts);
@@ -159,12 +160,12 @@ draft profile line parts = record {
 }
 
 -- why a rule has no effect: it has an option that udev does not know, and so leaves out, or nothing but matches
-abbrev pub idle_spot : List ℕ → Option Placed → Spot MessageKind
+abbrev pub idle_spot : Text → Option Placed → Spot MessageKind
 idle_spot line None = whole_spot RuleWithoutEffect line
 idle_spot line (Some t) = part_spot BadValue t
 
 -- the draft of tokens that were read, or what is wrong with them: udev also drops a rule without effect
-abbrev pub draft_with : Profile → List ℕ → Result (List WrittenPart) (Spot MessageKind) → Result Draft (Spot MessageKind)
+abbrev pub draft_with : Profile → Text → Result (List WrittenPart) (Spot MessageKind) → Result Draft (Spot MessageKind)
 draft_with profile line (Ok parts) =
     if lacks_effect profile (tokens_in parts) then Err (idle_spot line (unknown_option (tokens_in parts))) else Ok (draft profile line parts)
 draft_with profile line (Err wrong) = Err wrong
@@ -175,7 +176,7 @@ most_bytes Manual = 16384
 most_bytes Udev = 16383
 
 -- a joined line read as a rule: its draft, or what is wrong with it, first its length
-unfoldable pub draft_of : Profile → List ℕ → Result Draft (Spot MessageKind)
+unfoldable pub draft_of : Profile → Text → Result Draft (Spot MessageKind)
 draft_of profile line =
     if nat_lt (most_bytes profile) (length line) then Err (whole_spot LineTooLong line)
     else draft_with profile line (parts_of profile line (items_as profile line))

@@ -1,6 +1,7 @@
 -- What sorting the parts of a rule keeps, in which order they are then, which names are given twice, and how a line
 -- is written about which there is no finding.
 use Rattle.std.specs.Prelude.{◌≡◌, ℕ, ◌+◌, ◌<◌, ◌≤◌, false, List, [], ◌∷◌, ◌++◌, ⊤, drop, filter_map, length}
+use Rattle.text_bytes.specs.Text.{Text}
 use Rattle.text_bytes.specs.Names.{comma, is_blank}
 use Rattle.file_messages.specs.declared.message.MessageKind.TheVariants.{GivenTwice}
 use Rattle.text_bytes.specs.declared.profile.Profile.{Profile}
@@ -37,13 +38,13 @@ NoneIsLost parts =
     + (length (filter_map assignment_in parts) + (length (filter_map label_in parts) + length (filter_map goto_in parts)))))) ≡ length parts
 
 -- both parts give a label, or both a jump, and the later one gives this name
-abbrev pub GivesAgain : Part → Part → List ℕ → Type 0
+abbrev pub GivesAgain : Part → Part → Text → Type 0
 GivesAgain (part.Label earlier) (part.Label later) name = later ≡ name
 GivesAgain (part.Goto earlier) (part.Goto later) name = later ≡ name
 GivesAgain _ _ _ = ⊥
 
 -- one of the tokens has this token's key, and this token gives the name
-pub record IsGivenAmong (parts : List WrittenPart) (w : WrittenPart) (name : List ℕ) : Type 0 where
+pub record IsGivenAmong (parts : List WrittenPart) (w : WrittenPart) (name : Text) : Type 0 where
   pub before : List WrittenPart
   pub earlier : WrittenPart
   pub following : List WrittenPart
@@ -53,25 +54,25 @@ pub record IsGivenAmong (parts : List WrittenPart) (w : WrittenPart) (name : Lis
 -- By the manual, a token after others is reported at its value as one given twice exactly if one with its key is among
 -- these, and otherwise nothing is said.
 pub record IsReportedWhereAgain (parts : List WrittenPart) (w : WrittenPart) : Type 0 where
-  pub again : (name : List ℕ) → IsGivenAmong parts w name → given_again_after Manual [] (parts ++ w ∷ [])
+  pub again : (name : Text) → IsGivenAmong parts w name → given_again_after Manual [] (parts ++ w ∷ [])
       ≡ given_again_after Manual [] parts ++ value_spot GivenTwice name w.token ∷ []
-  pub once : ((name : List ℕ) → IsGivenAmong parts w name → ⊥) → given_again_after Manual [] (parts ++ w ∷ []) ≡ given_again_after Manual [] parts
+  pub once : ((name : Text) → IsGivenAmong parts w name → ⊥) → given_again_after Manual [] (parts ++ w ∷ []) ≡ given_again_after Manual [] parts
 
 -- blanks, one comma, and blanks, of which there is at least one
-pub record IsPlainGap (gap : List ℕ) : Type 0 where
-  pub before : List ℕ
-  pub following : List ℕ
+pub record IsPlainGap (gap : Text) : Type 0 where
+  pub before : Text
+  pub following : Text
   pub spelled : gap ≡ before ++ comma ∷ following
   pub blank_before : AllAre is_blank before
   pub blank_after : AllAre is_blank following
   pub some_after : 0 < length following
 
 -- after a place where a token ends, each gap is plain, no operator is read as `=`, and only blanks are at the end
-abbrev pub IsPlainAfter : List ℕ → ℕ → List Placed → Type 0
+abbrev pub IsPlainAfter : Text → ℕ → List Placed → Type 0
 IsPlainAfter line place [] = AllAre is_blank (drop place line)
 IsPlainAfter line place (t ∷ tokens) = IsPlainGap (between place t.span.start line) × (is_read_as_assign t ≡ false) × IsPlainAfter line t.span.end tokens
 
 -- a line is written as it should be
-abbrev pub IsPlain : List ℕ → List Placed → Type 0
+abbrev pub IsPlain : Text → List Placed → Type 0
 IsPlain line [] = ⊤
 IsPlain line (t ∷ tokens) = (is_read_as_assign t ≡ false) × IsPlainAfter line t.span.end tokens

@@ -1,6 +1,7 @@
 -- The joined lines of a rules file.
 use Rattle.std.specs.Prelude.{ℕ, ◌-◌, Bool, true, not, ◌&&◌, if◌then◌else◌, List, [], ◌∷◌, ◌++◌, length, take, map, filter, Option, Some, None}
 use Rattle.std.specs.List.{onto_first}
+use Rattle.text_bytes.specs.Text.{Text}
 use Rattle.text_bytes.specs.declared.profile.Profile.{Profile}
 use Rattle.text_bytes.specs.declared.profile.Profile.TheVariants.{Manual, Udev}
 use Rattle.text_bytes.specs.Names.{hash, backslash}
@@ -24,7 +25,7 @@ kept ls = filter (λ l. not (is_comment l)) (map unindented ls)
 -- what a kept line gives to a joined line: its text without the `\` at its end, and whether there was one
 pub record Piece : Type 0 where
   pub number : ℕ
-  pub text : List ℕ
+  pub text : Text
   pub continues : Bool
 
 -- a kept line as a piece
@@ -43,7 +44,7 @@ is_open [] = true
 is_open (p ∷ ps) = p.continues && is_open ps
 
 -- the texts of a run's pieces, one after another
-abbrev pub run_text : List Piece → List ℕ
+abbrev pub run_text : List Piece → Text
 run_text [] = []
 run_text (p ∷ ps) = p.text ++ run_text ps
 
@@ -96,5 +97,5 @@ abbrev pub joined : Profile → ℕ → List Piece → Joined
 joined profile last ps = joined_as (lines_of_runs profile (runs ps)) (open_of_runs profile last (runs ps))
 
 -- the joined lines of a file, whose lines are counted from 1
-abbrev pub joined_lines : Profile → List ℕ → Joined
+abbrev pub joined_lines : Profile → Text → Joined
 joined_lines profile bytes = joined profile (length (lines bytes)) (map piece_of (kept (numbered_from 1 (lines bytes))))

@@ -1,5 +1,6 @@
 -- The rules of files, and the messages about them.
 use Rattle.std.specs.Prelude.{ℕ, if◌then◌else◌, List, [], ◌∷◌, ◌++◌, map, zip, filter_map, flat_map, Option, Some, None, option_map, Result, Ok, Err}
+use Rattle.text_bytes.specs.Text.{Text}
 use Rattle.file_messages.specs.declared.message.Message.{Message}
 use Rattle.file_messages.specs.declared.message.MessageKind.{MessageKind}
 use Rattle.file_messages.specs.declared.message.MessageKind.TheVariants.{NoLaterLabel, OpenAtEnd, LabelUnused, FileAbandoned}
@@ -26,7 +27,7 @@ pub record ReadRules : Type 0 where
 -- a joined line, read as a rule
 pub record Reading : Type 0 where
   pub line : ℕ
-  pub text : List ℕ
+  pub text : Text
   pub read : Result Draft (Spot MessageKind)
 
 -- a joined line, read as a rule
@@ -38,7 +39,7 @@ abbrev pub readings_of : Profile → SourceFile → List Reading
 readings_of profile file = map (reading_of profile) (joined_lines profile file.bytes).lines
 
 -- a name, if there is one, without its place
-abbrev pub name_of : Option NamePlace → Option (List ℕ)
+abbrev pub name_of : Option NamePlace → Option Text
 name_of given = option_map (λ n. n.name) given
 
 -- the names for jumps of a line; one that is not a rule has none
@@ -68,19 +69,19 @@ line_findings (Ok d) l = findings_of d l
 line_findings (Err wrong) l = wrong ∷ []
 
 -- what is found, reported for a line of a file with what a message keeps of a text
-abbrev pub message : List ℕ → ℕ → MessageKind → List ℕ → Message
+abbrev pub message : Text → ℕ → MessageKind → Text → Message
 message name line kind text = record { file = name; line = line; kind = kind; word = word_of text }
 
 -- a finding about a line of a file, as a message: without its place
-abbrev pub message_at : List ℕ → ℕ → Spot MessageKind → Message
+abbrev pub message_at : Text → ℕ → Spot MessageKind → Message
 message_at name line found = message name line found.kind found.word
 
 -- the messages about a line
-abbrev pub line_messages : List ℕ → ℕ → Result Draft (Spot MessageKind) → Landing → List Message
+abbrev pub line_messages : Text → ℕ → Result Draft (Spot MessageKind) → Landing → List Message
 line_messages name line read l = map (message_at name line) (line_findings read l)
 
 -- a rule, its jump dropped if no later rule has the label
-abbrev pub rule_at : Profile → List ℕ → ℕ → Draft → Landing → Rule
+abbrev pub rule_at : Profile → Text → ℕ → Draft → Landing → Rule
 rule_at profile name line d l = record {
   file = name;
   line = line;
@@ -94,12 +95,12 @@ rule_at profile name line d l = record {
 }
 
 -- the rule of a line, if it is one
-abbrev pub line_rules : Profile → List ℕ → ℕ → Result Draft (Spot MessageKind) → Landing → List Rule
+abbrev pub line_rules : Profile → Text → ℕ → Result Draft (Spot MessageKind) → Landing → List Rule
 line_rules profile name line (Ok d) l = rule_at profile name line d l ∷ []
 line_rules profile name line (Err wrong) l = []
 
 -- the message about a line that is still open at its file's end
-abbrev pub open_messages : List ℕ → Option ℕ → List Message
+abbrev pub open_messages : Text → Option ℕ → List Message
 open_messages name None = []
 open_messages name (Some line) = message name line OpenAtEnd [] ∷ []
 

@@ -1,5 +1,6 @@
 -- What is found about parts of a joined line, with the places of these parts in it.
-use Rattle.std.specs.Prelude.{ℕ, ◌+◌, Bool, true, false, if◌then◌else◌, List, [], length, drop}
+use Rattle.std.specs.Prelude.{ℕ, ◌+◌, Bool, true, false, if◌then◌else◌, [], length, drop}
+use Rattle.text_bytes.specs.Text.{Text}
 use Rattle.file_messages.specs.declared.message.MessageKind.{MessageKind}
 use Rattle.file_messages.specs.declared.message.MessageKind.TheVariants.{BadSyntax, BadPrefix, UnknownKey, OperatorNotAllowed, WrongAttribute, ReservedProperty}
 use Rattle.rule_tokens.specs.Grammar.{Placed, attribute_bytes}
@@ -37,11 +38,11 @@ abbrev pub part_spot : MessageKind → Placed → Spot MessageKind
 part_spot kind t = if is_of_key kind then key_spot kind t else (if is_of_attribute kind then attribute_spot kind t else value_spot kind (meaning_of t) t)
 
 -- a part of a line, from a place on, that is not a token: all up to the line's end, or the letters before the quote
-abbrev pub token_spot : TokenFaultKind → ℕ → List ℕ → Spot MessageKind
+abbrev pub token_spot : TokenFaultKind → ℕ → Text → Spot MessageKind
 token_spot Syntax at line = let text = drop at line in spot BadSyntax text at (length text)
 token_spot Prefix at line =
     let text = drop at line in spot BadPrefix (letters_at text) (start_before_quote line text (letters_at text)) (length (letters_at text))
 
 -- a line as a whole, reported with no text
-abbrev pub whole_spot : MessageKind → List ℕ → Spot MessageKind
+abbrev pub whole_spot : MessageKind → Text → Spot MessageKind
 whole_spot kind line = spot kind [] 0 (length line)

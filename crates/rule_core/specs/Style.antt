@@ -1,6 +1,7 @@
 -- How a rule is written: commas and blanks between its tokens, and operators that are read as `=`.
 use Rattle.std.specs.Prelude.{ℕ, ◌-◌, ◌==◌, Bool, false, not, ◌&&◌, if◌then◌else◌, List, [], ◌∷◌, ◌++◌, take, drop, length}
 use Rattle.std.specs.List.{count_by}
+use Rattle.text_bytes.specs.Text.{Text}
 use Rattle.text_bytes.specs.Names.{comma, is_blank}
 use Rattle.file_messages.specs.declared.message.MessageKind.{MessageKind}
 use Rattle.file_messages.specs.declared.message.MessageKind.TheVariants.{CommaExpected, BlankExpected, ReadAsAssign, LeadingComma}
@@ -15,31 +16,31 @@ use Rattle.rule_core.specs.Spots.{key_spot}
 use Rattle.rule_types.specs.declared.spot.Spot.{Spot}
 
 -- how many commas a gap has
-abbrev pub commas : List ℕ → ℕ
+abbrev pub commas : Text → ℕ
 commas gap = count_by (λ b. b == comma) gap
 
 -- a whole gap, which begins at a place, if it has a comma
-abbrev pub whole_gap : MessageKind → ℕ → List ℕ → List (Spot MessageKind)
+abbrev pub whole_gap : MessageKind → ℕ → Text → List (Spot MessageKind)
 whole_gap kind place gap = if commas gap == 0 then [] else spot kind [] place (length gap) ∷ []
 
 -- the commas of a gap before a token: that token's key
-abbrev pub comma_findings : List ℕ → Placed → List (Spot MessageKind)
+abbrev pub comma_findings : Text → Placed → List (Spot MessageKind)
 comma_findings gap t =
     (if commas gap == 1 then [] else key_spot CommaExpected t ∷ [])
     ++ (if ends_in comma gap then key_spot BlankExpected t ∷ [] else [])
 
 -- whether a gap has a comma and begins with a blank
-abbrev pub has_blank_before_comma : List ℕ → Bool
+abbrev pub has_blank_before_comma : Text → Bool
 has_blank_before_comma [] = false
 has_blank_before_comma (b ∷ gap) = is_blank b && not (commas gap == 0)
 
 -- a gap before a token: that token's key; udev also reports blanks before a comma
-abbrev pub gap_findings : Profile → List ℕ → Placed → List (Spot MessageKind)
+abbrev pub gap_findings : Profile → Text → Placed → List (Spot MessageKind)
 gap_findings Manual gap t = comma_findings gap t
 gap_findings Udev gap t = comma_findings gap t ++ (if has_blank_before_comma gap then key_spot BlankBeforeComma t ∷ [] else [])
 
 -- the gap before the first token, which only udev skips
-abbrev pub leading_findings : Profile → List ℕ → List (Spot MessageKind)
+abbrev pub leading_findings : Profile → Text → List (Spot MessageKind)
 leading_findings Manual gap = []
 leading_findings Udev gap = whole_gap LeadingComma 0 gap
 
@@ -53,17 +54,17 @@ abbrev pub operator_findings : Profile → Placed → List (Spot MessageKind)
 operator_findings profile t = if is_read_as_assign t then key_spot (read_as_assign_kind profile) t ∷ [] else []
 
 -- the bytes of a line from a place up to another
-abbrev pub between : ℕ → ℕ → List ℕ → List ℕ
+abbrev pub between : ℕ → ℕ → Text → Text
 between from to line = take (to - from) (drop from line)
 
 -- the gaps and tokens of a line after a place where a token ends; no token follows the last gap
-abbrev pub style_after : Profile → List ℕ → ℕ → List Placed → List (Spot MessageKind)
+abbrev pub style_after : Profile → Text → ℕ → List Placed → List (Spot MessageKind)
 style_after profile line place [] = whole_gap CommaExpected place (drop place line)
 style_after profile line place (t ∷ tokens) =
     gap_findings profile (between place t.span.start line) t ++ (operator_findings profile t ++ style_after profile line t.span.end tokens)
 
 -- the gaps and tokens of a line, in the order of their places
-abbrev pub style_findings : Profile → List ℕ → List Placed → List (Spot MessageKind)
+abbrev pub style_findings : Profile → Text → List Placed → List (Spot MessageKind)
 style_findings profile line [] = []
 style_findings profile line (t ∷ tokens) =
     leading_findings profile (between 0 t.span.start line) ++ (operator_findings profile t ++ style_after profile line t.span.end tokens)

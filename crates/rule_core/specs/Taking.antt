@@ -1,5 +1,6 @@
 -- Serves inner proofs only: the tokens of a rule taken one by one.
 use Rattle.std.specs.Prelude.{ℕ, List, [], ◌∷◌, ◌++◌, Option, Some, None, filter_map}
+use Rattle.text_bytes.specs.Text.{Text}
 use Rattle.text_bytes.specs.declared.profile.Profile.{Profile}
 use Rattle.text_bytes.specs.declared.profile.Profile.TheVariants.{Manual, Udev}
 use Rattle.text_bytes.specs.Texts.{first}
@@ -92,6 +93,6 @@ with_kind k (part.Set a) = record k { sets = k.sets ++ a ∷ [] }
 with_kind k _ = k
 
 -- a rule of these names and these parts
-abbrev pub rule_with : List ℕ → ℕ → Option (List ℕ) → Option (List ℕ) → Kinds → Rule
+abbrev pub rule_with : Text → ℕ → Option Text → Option Text → Kinds → Rule
 rule_with name line label goto k =
     record { file = name; line = line; label = label; goto = goto; plain = k.plain; up = k.up; acts = k.acts; results = k.results; sets = k.sets }

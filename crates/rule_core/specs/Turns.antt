@@ -1,6 +1,7 @@
 -- The order in which the parts of a rule that act are evaluated, and those that assign.
 use Rattle.std.specs.Prelude.{ℕ, ◌+◌, ◌==◌, Bool, false, if◌then◌else◌, List, filter, flat_map, Option, Some, is_none}
 use Rattle.std.specs.List.{range_with_len}
+use Rattle.text_bytes.specs.Text.{Text}
 use Rattle.text_bytes.specs.declared.profile.Profile.{Profile}
 use Rattle.text_bytes.specs.declared.profile.Profile.TheVariants.{Manual, Udev}
 use Rattle.rule_templates.specs.Substituted.{is_substituted}
@@ -52,7 +53,7 @@ turn_of_target (target.Sysctl name) = 10
 
 -- whether udev renders a text of OWNER, GROUP or MODE for each event: a name or a number is known when the rule is
 -- read if it has no substitution, and so is a mode
-abbrev pub is_rendered_late : Target → List ℕ → Bool
+abbrev pub is_rendered_late : Target → Text → Bool
 is_rendered_late target.Owner text = is_substituted text
 is_rendered_late target.Group text = is_substituted text
 is_rendered_late target.Mode text = is_none (mode_of text)
@@ -60,7 +61,7 @@ is_rendered_late _ text = false
 
 -- the turn of an assignment of a text for udev, among these: OWNER, GROUP and MODE that are known when the rule is read
 -- come right after those that are rendered for each event
-abbrev pub turn_of_text : Target → List ℕ → ℕ
+abbrev pub turn_of_text : Target → Text → ℕ
 turn_of_text to text = if is_rendered_late to text then turn_of_target to else 3 + turn_of_target to
 
 -- the turn of an option for udev, among the options

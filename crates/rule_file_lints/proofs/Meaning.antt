@@ -4,7 +4,7 @@ use Rattle.std.specs.List.{count_by, list_any}
 use Rattle.std.proofs.Math.Seq.{drop-cons}
 use Rattle.std.proofs.lemmas.Bool.{lt-ltb}
 use Rattle.std.proofs.lemmas.List.Sums.{sum_by-cons}
-use Rattle.text_tables.specs.Texts.{Text}
+use Rattle.text_bytes.specs.Text.{Text}
 use Rattle.rule_lints.specs.declared.lint.Lint.{Lint}
 use Rattle.rule_file_lints.specs.Compared.{assigned_value, meant_spots, meant_to_compare}
 use Rattle.rule_file_lints.specs.Matches.{is_match}

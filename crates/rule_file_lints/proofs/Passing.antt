@@ -5,7 +5,8 @@ use Rattle.std.proofs.Math.Seq.{drop-cons}
 use Rattle.std.proofs.lemmas.List.{reverse-append, take_more}
 use Rattle.std.proofs.lemmas.List.Folds.{list_any-append}
 use Rattle.text_bytes.specs.declared.profile.Profile.{Profile}
-use Rattle.text_tables.specs.Texts.{Text, is_among, same_text, with_text, with_texts}
+use Rattle.text_bytes.specs.Text.{Text}
+use Rattle.text_tables.specs.Texts.{is_among, same_text, with_text, with_texts}
 use Rattle.text_tables.proofs.Found.{among_added}
 use Rattle.rule_file_lints.specs.Compared.{compared_texts, meant_spots, meant_to_compare, assigned_value, text_of, Valued}
 use Rattle.rule_value_lints.specs.Assignments.{is_about_tags}

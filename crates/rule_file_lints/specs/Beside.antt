@@ -1,6 +1,7 @@
 -- Properties that a rule compares after it imports them in the same rule: matches of the event are made before imports.
 use Rattle.std.specs.Prelude.{Bool, false, ◌&&◌, ◌||◌, if◌then◌else◌, List, [], ◌∷◌, ◌++◌, codes, Option, Some, None}
-use Rattle.text_tables.specs.Texts.{Text, is_among, same_text}
+use Rattle.text_bytes.specs.Text.{Text}
+use Rattle.text_tables.specs.Texts.{is_among, same_text}
 use Rattle.rule_types.specs.Spots.{spot_at_key}
 use Rattle.rule_types.specs.Tokens.{WrittenPart}
 use Rattle.rule_types.specs.declared.spot.Spot.{Spot}

@@ -4,7 +4,7 @@ use Rattle.std.specs.List.{ends_with}
 use Rattle.std.specs.Ordering.{match_ordering}
 use Rattle.text_bytes.specs.Insertion.{text_order}
 use Rattle.text_bytes.specs.Names.{slash}
-use Rattle.text_tables.specs.Texts.{Text}
+use Rattle.text_bytes.specs.Text.{Text}
 use Rattle.rule_lints.specs.Texts.{rest_after_last}
 
 -- a file's name without its folders

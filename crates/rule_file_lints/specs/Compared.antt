@@ -2,7 +2,8 @@
 use Rattle.std.specs.Prelude.{if◌then◌else◌, List, [], ◌∷◌, ◌++◌, filter_map, flat_map, Option, Some, None, option_map}
 use Rattle.std.specs.List.{list_any}
 use Rattle.text_bytes.specs.Names.{open_brace, close_brace}
-use Rattle.text_tables.specs.Texts.{Text, is_among}
+use Rattle.text_bytes.specs.Text.{Text}
+use Rattle.text_tables.specs.Texts.{is_among}
 use Rattle.rule_lints.specs.declared.lint.Lint.{Lint}
 use Rattle.rule_types.specs.Names.{key_name}
 use Rattle.rule_types.specs.declared.keys.Key.{Key}

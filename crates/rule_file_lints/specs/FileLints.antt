@@ -3,7 +3,7 @@ use Rattle.std.specs.Prelude.{Bool, false, List, [], ◌∷◌, ◌++◌, flat_m
 use Rattle.std.specs.List.{list_any}
 use Rattle.text_bytes.specs.declared.profile.Profile.{Profile}
 use Rattle.text_bytes.specs.declared.source_file.SourceFile.{SourceFile}
-use Rattle.text_tables.specs.Texts.{Text}
+use Rattle.text_bytes.specs.Text.{Text}
 use Rattle.rule_lints.specs.declared.lint.Lint.{Lint}
 use Rattle.rule_jumps.specs.declared.jumps.Landing.{Landing}
 use Rattle.rule_core.specs.Rules.{Reading}

@@ -1,5 +1,6 @@
 -- The rules of a file: its lines that were read as rules.
 use Rattle.std.specs.Prelude.{ℕ, ◌+◌, List, [], ◌∷◌, length, map, Option, Some, None, Result, Ok, Err}
+use Rattle.text_bytes.specs.Text.{Text}
 use Rattle.text_bytes.specs.declared.profile.Profile.{Profile}
 use Rattle.file_messages.specs.declared.message.MessageKind.{MessageKind}
 use Rattle.rule_jumps.specs.declared.jumps.Landing.{Landing}
@@ -28,10 +29,10 @@ rules_from start [] = []
 rules_from start (x ∷ lines) = rule_before x.0.line start x.0.read x.1 (rules_from (start + length x.0.text) lines)
 
 -- the rules of a file, of which there are none if it is given up because of a line
-abbrev pub rules_unless : Profile → List ℕ → Option ℕ → List FileRule
+abbrev pub rules_unless : Profile → Text → Option ℕ → List FileRule
 rules_unless profile bytes None = rules_from 0 (landed (map (reading_of profile) (joined_lines profile bytes).lines))
 rules_unless profile bytes (Some number) = []
 
 -- the rules of a file with these bytes
-abbrev pub file_rules : Profile → List ℕ → List FileRule
+abbrev pub file_rules : Profile → Text → List FileRule
 file_rules profile bytes = rules_unless profile bytes (abandoned profile bytes)

@@ -5,7 +5,8 @@ use Rattle.std.specs.List.{list_any, starts_with}
 use Rattle.text_bytes.specs.Names.{bar, open_bracket, question_mark, star}
 use Rattle.text_core.specs.Choices.{choice_fits}
 use Rattle.text_core.specs.declared.item.Item.{Item}
-use Rattle.text_tables.specs.Texts.{Text, is_among, same_text}
+use Rattle.text_bytes.specs.Text.{Text}
+use Rattle.text_tables.specs.Texts.{is_among, same_text}
 use Rattle.rule_lints.specs.declared.lint.Lint.{Lint}
 use Rattle.rule_lints.specs.declared.lint.Lint.TheVariants.{ImportedBelow}
 use Rattle.rule_types.specs.declared.part.Change.{Change}

@@ -1,6 +1,7 @@
 -- Serves inner proofs only: what its functions keep.
 use Rattle.std.specs.Prelude.{ℕ, ◌-◌, false, ◌||◌, nat_lt, if◌then◌else◌, List, [], Option, None}
-use Rattle.text_tables.specs.Texts.{Text, with_texts}
+use Rattle.text_bytes.specs.Text.{Text}
+use Rattle.text_tables.specs.Texts.{with_texts}
 use Rattle.rule_lints.specs.declared.lint.Lint.{Lint}
 use Rattle.rule_file_lints.specs.Compared.{assigned_value, meant_spots}
 use Rattle.rule_file_lints.specs.FileLints.{RulesAbove}

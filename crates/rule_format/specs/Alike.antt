@@ -1,8 +1,9 @@
 -- Rules files that are read alike.
-use Rattle.std.specs.Prelude.{ℕ, Bool, true, false, not, ◌==◌, ◌&&◌, ◌||◌, nat_eq, if◌then◌else◌, List, Option}
+use Rattle.std.specs.Prelude.{Bool, true, false, not, ◌==◌, ◌&&◌, ◌||◌, nat_eq, if◌then◌else◌, Option}
 use Rattle.std.specs.Bool.{beq}
 use Rattle.std.specs.Cmp.Lexicographic.{pointwise}
 use Rattle.std.specs.Option.{option_eq}
+use Rattle.text_bytes.specs.Text.{Text}
 use Rattle.text_bytes.specs.Texts.{is_empty}
 use Rattle.text_bytes.specs.declared.profile.Profile.TheVariants.{Manual}
 use Rattle.text_tables.specs.Texts.{same_text}
@@ -25,7 +26,7 @@ same_quote quote.BlindEscaped quote.BlindEscaped = true
 same_quote _ _ = false
 
 -- whether two attributes are the same, or both are lacking
-abbrev pub same_attribute : Option (List ℕ) → Option (List ℕ) → Bool
+abbrev pub same_attribute : Option Text → Option Text → Bool
 same_attribute a b = option_eq same_text a b
 
 -- whether two tokens say the same, wherever they are
@@ -59,16 +60,16 @@ abbrev pub is_mended_line : Landed → Landed → Bool
 is_mended_line x y = stands_for x y && says_same x y
 
 -- whether a line of a file is a comment, or has nothing but blanks
-abbrev pub is_idle : List ℕ → Bool
+abbrev pub is_idle : Text → Bool
 is_idle line = is_comment line || is_empty (written line)
 
 -- whether a line of a file is the same if it is a comment or has nothing but blanks
-abbrev pub same_if_idle : List ℕ → List ℕ → Bool
+abbrev pub same_if_idle : Text → Text → Bool
 same_if_idle l k = not (is_idle l) || same_text l k
 
 -- whether a file is another that was mended: it has as many lines, of which comments and empty ones are the same, the same line is
 -- open at its end, and its joined lines are those of the other, mended
-abbrev pub is_mended : List ℕ → List ℕ → Bool
+abbrev pub is_mended : Text → Text → Bool
 is_mended old new =
     option_eq nat_eq (joined_lines Manual old).open_at (joined_lines Manual new).open_at
     && (pointwise same_if_idle (whole_lines old) (whole_lines new) && pointwise is_mended_line (landed_in old) (landed_in new))

@@ -1,6 +1,7 @@
 -- Lines of which the commas and blanks are to be mended.
-use Rattle.std.specs.Prelude.{ℕ, Bool, false, not, ◌&&◌, List, [], Result, Ok, Err}
+use Rattle.std.specs.Prelude.{Bool, false, not, ◌&&◌, List, [], Result, Ok, Err}
 use Rattle.std.specs.List.{list_all}
+use Rattle.text_bytes.specs.Text.{Text}
 use Rattle.file_messages.specs.Messages.{is_style}
 use Rattle.file_messages.specs.declared.message.MessageKind.{MessageKind}
 use Rattle.rule_jumps.specs.declared.jumps.Landing.{Landing}
@@ -20,7 +21,7 @@ is_sound (Err wrong) l = false
 is_sound (Ok d) l = is_faultless d l
 
 -- whether a line without a fault has commas or blanks that are not as they should be
-abbrev pub is_badly_spaced : List ℕ → Result Draft (Spot MessageKind) → Landing → Bool
+abbrev pub is_badly_spaced : Text → Result Draft (Spot MessageKind) → Landing → Bool
 is_badly_spaced text (Err wrong) l = false
 is_badly_spaced text (Ok d) l = is_faultless d l && not (is_well_spaced text (tokens_in d.parts))
 

@@ -1,6 +1,7 @@
 -- What is true of a rules file whose commas and blanks are mended.
 use Rattle.std.specs.Prelude.{◌≡◌, ◌≤◌, ⊤, ℕ, Bool, true, false, not, List, [], ◌∷◌, ◌++◌, filter, length, map, None, Result, Ok, Err}
 use Rattle.std.specs.List.{AllByRecursion, list_all}
+use Rattle.text_bytes.specs.Text.{Text}
 use Rattle.text_bytes.specs.Names.{newline}
 use Rattle.text_bytes.specs.declared.source_file.SourceFile.{SourceFile}
 use Rattle.text_bytes.specs.declared.profile.Profile.TheVariants.{Udev}
@@ -34,7 +35,7 @@ Correspond R (x ∷ xs) [] = ⊥
 Correspond R (x ∷ xs) (y ∷ ys) = R x y × Correspond R xs ys
 
 -- a line of a file is the same as another if it is a comment or has nothing but blanks
-abbrev pub StaysIfIdle : List ℕ → List ℕ → Type 0
+abbrev pub StaysIfIdle : Text → Text → Type 0
 StaysIfIdle l k = is_idle l ≡ true → k ≡ l
 
 -- what a part of a rule says, wherever its token is
@@ -58,21 +59,21 @@ is_about_spacing BlankBeforeComma = true
 is_about_spacing _ = false
 
 -- whether nothing is said about the commas and blanks of a line with these tokens, also by udev's own readings of style
-abbrev pub is_silent : List ℕ → List Placed → Bool
+abbrev pub is_silent : Text → List Placed → Bool
 is_silent text tokens = list_all (λ s. not (is_about_spacing s.kind)) (style_findings Udev text tokens)
 
 -- nothing is said about the commas and blanks of a joined line, if it is a rule
-abbrev pub IsSilent : List ℕ → Result Draft (Spot MessageKind) → Type 0
+abbrev pub IsSilent : Text → Result Draft (Spot MessageKind) → Type 0
 IsSilent text (Err wrong) = ⊤
 IsSilent text (Ok d) = is_silent text (tokens_in d.parts) ≡ true
 
 -- lines as a text, each ended by a newline
-abbrev pub text : List (List ℕ) → List ℕ
+abbrev pub text : List Text → Text
 text [] = []
 text (l ∷ ls) = l ++ newline ∷ text ls
 
 -- a file with other bytes
-abbrev pub with_bytes : SourceFile → List ℕ → SourceFile
+abbrev pub with_bytes : SourceFile → Text → SourceFile
 with_bytes f bytes = record f { bytes = bytes }
 
 -- messages without those on style
@@ -80,11 +81,11 @@ abbrev pub but_style : List Message → List Message
 but_style messages = filter (λ m. not (is_style m.kind)) messages
 
 -- what is written of a joined line with these tokens if it is one line of its file
-abbrev pub respaced : List ℕ → List Placed → List ℕ
+abbrev pub respaced : Text → List Placed → Text
 respaced line tokens = written_between line (stretches line tokens) 0 (length line)
 
 -- What is written of a line is read as tokens to its end, which say the same as these, and its commas and blanks are as they should be.
-pub record IsRespaced (line : List ℕ) (tokens : List Placed) : Type 0 where
+pub record IsRespaced (line : Text) (tokens : List Placed) : Type 0 where
   pub placed : List Placed
   pub reads : items_of (respaced line tokens) ≡ answers placed None
   pub same : map (λ t. t.parts) placed ≡ map (λ t. t.parts) tokens

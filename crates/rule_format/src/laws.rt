@@ -1,6 +1,7 @@
 //! Laws of files that were mended, each the contract of a function with an empty body.
 ghost use Rattle.std.specs.Prelude.{◌≡◌, ◌≤◌, ◌⊎◌, ◌∷◌, ◌++◌, ℕ, List, None};
 ghost use Rattle.std.specs.List.{AllByRecursion};
+ghost use Rattle.text_bytes.specs.Text.{Text};
 ghost use Rattle.text_bytes.specs.declared.profile.Profile.TheVariants.{Manual};
 ghost use Rattle.text_bytes.specs.declared.source_file.SourceFile as files;
 ghost use Rattle.rule_tokens.specs.Grammar.{Placed, answers};
@@ -18,44 +19,44 @@ ghost use Rattle.rule_format.specs.WholeLines.{whole_lines};
 /// those that udev's own readings add, either.
 #[tactic(auto, using(crate::proofs::Silence::silent))]
 pub fn what_is_reported_is_mended()
-    ensures { (text : List ℕ) (tokens : List Placed) → is_silent text tokens ≡ is_well_spaced text tokens }
+    ensures { (text : Text) (tokens : List Placed) → is_silent text tokens ≡ is_well_spaced text tokens }
 {}
 
 /// A file without a message about commas and blanks stays as it is.
 #[tactic(auto, using(crate::proofs::Silence::silent_files_stay))]
 pub fn files_without_such_messages_stay()
-    ensures { (bytes : List ℕ) → AllByRecursion (λ x. IsSilent x.0.text x.0.read) (landed_in bytes) → mended bytes ≡ bytes }
+    ensures { (bytes : Text) → AllByRecursion (λ x. IsSilent x.0.text x.0.read) (landed_in bytes) → mended bytes ≡ bytes }
 {}
 
 /// A file in which nothing is to mend stays as it is.
 #[tactic(auto, using(crate::proofs::Staying::files_stay))]
 pub fn mended_files_stay()
-    ensures { (bytes : List ℕ) → AllByRecursion IsMended (landed_in bytes) → mended bytes ≡ bytes }
+    ensures { (bytes : Text) → AllByRecursion IsMended (landed_in bytes) → mended bytes ≡ bytes }
 {}
 
 /// What was mended is not changed again.
 #[tactic(auto, using(crate::proofs::Twice::mended_twice))]
 pub fn nothing_is_mended_twice()
-    ensures { (bytes : List ℕ) → mended (mended bytes) ≡ mended bytes }
+    ensures { (bytes : Text) → mended (mended bytes) ≡ mended bytes }
 {}
 
 /// A file that is changed at all has nothing left to mend.
 #[tactic(auto, using(crate::proofs::Twice::none_left))]
 pub fn changed_files_are_mended_whole()
-    ensures { (bytes : List ℕ) → (mended bytes ≡ bytes) ⊎ AllByRecursion IsMended (landed_in (mended bytes)) }
+    ensures { (bytes : Text) → (mended bytes ≡ bytes) ⊎ AllByRecursion IsMended (landed_in (mended bytes)) }
 {}
 
 /// Each joined line keeps its number and what becomes of its jump and its label; it keeps its bytes unless something
 /// was to mend in it, and then its tokens, without a fault.
 #[tactic(auto, using(crate::proofs::Twice::lines_stay))]
 pub fn joined_lines_say_the_same()
-    ensures { (bytes : List ℕ) → Correspond IsAsItWas (landed_in bytes) (landed_in (mended bytes)) }
+    ensures { (bytes : Text) → Correspond IsAsItWas (landed_in bytes) (landed_in (mended bytes)) }
 {}
 
 /// A file keeps the number of its lines, and each that is a comment or has nothing but blanks stays as it is.
 #[tactic(auto, using(crate::proofs::Twice::idle_lines_stay))]
 pub fn comments_stay()
-    ensures { (bytes : List ℕ) → Correspond StaysIfIdle (whole_lines bytes) (whole_lines (mended bytes)) }
+    ensures { (bytes : Text) → Correspond StaysIfIdle (whole_lines bytes) (whole_lines (mended bytes)) }
 {}
 
 /// A file that was mended has the same rules, with the same numbers of their lines.
@@ -74,14 +75,14 @@ pub fn other_messages_stay()
 /// they should be.
 #[tactic(auto, using(crate::proofs::Respacing::lines_respaced))]
 pub fn mended_lines_keep_their_tokens()
-    ensures { (line : List ℕ) (t : Placed) (tokens : List Placed) → items_of line ≡ answers (t ∷ tokens) None → IsRespaced line (t ∷ tokens) }
+    ensures { (line : Text) (t : Placed) (tokens : List Placed) → items_of line ≡ answers (t ∷ tokens) None → IsRespaced line (t ∷ tokens) }
 {}
 
 /// Wherever such a line is cut, what is written of its parts is what is written of it whole: so its bytes and its commas
 /// stay in their order, and none is lost where the line goes on in another line of its file.
 #[tactic(auto, using(crate::proofs::Cuts::line_cut))]
 pub fn parts_of_lines_make_the_whole()
-    ensures { (line : List ℕ) (t : Placed) (tokens : List Placed) (a b c : ℕ) → items_of line ≡ answers (t ∷ tokens) None → a ≤ b → b ≤ c
+    ensures { (line : Text) (t : Placed) (tokens : List Placed) (a b c : ℕ) → items_of line ≡ answers (t ∷ tokens) None → a ≤ b → b ≤ c
         → written_between line (stretches line (t ∷ tokens)) a b ++ written_between line (stretches line (t ∷ tokens)) b c
         ≡ written_between line (stretches line (t ∷ tokens)) a c }
 {}

@@ -12,9 +12,9 @@ pub(crate) struct WholeLine<'a> {
 }
 
 impl<'a> Model for WholeLine<'a> {
-    ghost use Rattle.std.specs.Prelude.{List, ℕ};
+    ghost use Rattle.text_bytes.specs.Text.{Text};
 
-    ghost Value = { List ℕ };
+    ghost Value = { Text };
 
     ghost view = { λ l. l.bytes.now };
 }
@@ -99,10 +99,11 @@ pub(crate) struct WholeLines<'a> {
 }
 
 impl<'a> Model for WholeLines<'a> {
-    ghost use Rattle.std.specs.Prelude.{List, ℕ};
+    ghost use Rattle.std.specs.Prelude.{List};
+    ghost use Rattle.text_bytes.specs.Text.{Text};
     ghost use Rattle.rule_format.specs.WholeLines.{whole_lines};
 
-    ghost Value = { List (List ℕ) };
+    ghost Value = { List Text };
 
     ghost view = { λ s. whole_lines s.rest.now };
 }

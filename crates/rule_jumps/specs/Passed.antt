@@ -1,7 +1,7 @@
 -- Serves inner proofs only: how many rules each jump skips.
 use Rattle.std.specs.Prelude.{ℕ, not, List, [], ◌∷◌, Option, Some, None}
 use Rattle.std.specs.List.{prefix_len}
-use Rattle.text_tables.specs.Texts.{Text}
+use Rattle.text_bytes.specs.Text.{Text}
 use Rattle.rule_jumps.specs.Jumps.{is_named}
 use Rattle.rule_types.specs.Rules.{Rule}
 

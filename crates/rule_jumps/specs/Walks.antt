@@ -1,6 +1,6 @@
 -- Serves inner proofs only: what the pass over rules keeps.
 use Rattle.std.specs.Prelude.{ℕ, ◌-◌, List, Option, Some, None}
-use Rattle.text_tables.specs.Texts.{Text}
+use Rattle.text_bytes.specs.Text.{Text}
 use Rattle.text_tables.specs.Pairs.{value_of, with_value}
 
 -- how many of these rules a jump skips, by how many are below the rule with its label

@@ -1,7 +1,8 @@
 -- What may be wrong with a token by the manual, as one list: each condition with its fault.
-use Rattle.std.specs.Prelude.{◌≡◌, ℕ, Bool, true, false, not, ◌&&◌, if◌then◌else◌, List, [], ◌∷◌, Option, Some, None, is_none, is_err, Result, Err}
+use Rattle.std.specs.Prelude.{◌≡◌, Bool, true, false, not, ◌&&◌, if◌then◌else◌, List, [], ◌∷◌, Option, Some, None, is_none, is_err, Result, Err}
 use Rattle.std.specs.Option.{option_and_then}
 use Rattle.std.specs.Result.{result_err}
+use Rattle.text_bytes.specs.Text.{Text}
 use Rattle.file_messages.specs.declared.message.MessageKind.TheVariants.{UnknownKey, OperatorNotAllowed, WrongAttribute}
 use Rattle.file_messages.specs.declared.message.MessageKind.TheVariants.{BadValue, BadSubstitution, SetNotSupported}
 use Rattle.text_bytes.specs.declared.profile.Profile.TheVariants.{Manual}
@@ -65,11 +66,11 @@ is_class (Err (glob.Class at)) = true
 is_class _ = false
 
 -- the text has a set with a class, if it is read as patterns
-abbrev pub has_class : Bool → List ℕ → Role → Bool
+abbrev pub has_class : Bool → Text → Role → Bool
 has_class blind text r = takes_patterns r && is_class (if blind then choice_blind text else choice text)
 
 -- the text has an invalid substitution, if it is read with substitutions
-abbrev pub has_bad_substitution : List ℕ → Role → Bool
+abbrev pub has_bad_substitution : Text → Role → Bool
 has_bad_substitution text r = takes_substitutions r && is_err (templates.pieces_of text)
 
 -- the value asks for its case to be ignored, though it is not that of a match
@@ -77,7 +78,7 @@ abbrev pub ignores_in_vain : Bool → Role → Bool
 ignores_in_vain blind r = blind && not (is_match r)
 
 -- the text is not a value of the role
-abbrev pub is_no_value : Bool → List ℕ → Role → Bool
+abbrev pub is_no_value : Bool → Text → Role → Bool
 is_no_value blind text r = is_err (part_by Manual r blind text)
 
 -- the first fault whose condition holds

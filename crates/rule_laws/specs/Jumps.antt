@@ -1,5 +1,6 @@
 -- Where the jumps of the rules of several files land.
 use Rattle.std.specs.Prelude.{◌≡◌, ◌+◌, ℕ, List, [], ◌∷◌, ◌++◌, map, Some}
+use Rattle.text_bytes.specs.Text.{Text}
 use Rattle.text_bytes.specs.declared.source_file.SourceFile.{SourceFile}
 use Rattle.text_bytes.specs.declared.profile.Profile.TheVariants.{Manual}
 use Rattle.rule_types.specs.Rules.{Rule}
@@ -16,7 +17,7 @@ abbrev pub rules_in : List (ℕ × Rule) → List Rule
 rules_in numbered = map (λ x. x.1) numbered
 
 -- the first of these rules that has the label is of the file with this number
-pub record LandsIn (file : ℕ) (name : List ℕ) (below : List (ℕ × Rule)) : Type 0 where
+pub record LandsIn (file : ℕ) (name : Text) (below : List (ℕ × Rule)) : Type 0 where
   pub between : List (ℕ × Rule)
   pub landing : Rule
   pub following : List (ℕ × Rule)
@@ -28,5 +29,5 @@ pub record LandsIn (file : ℕ) (name : List ℕ) (below : List (ℕ × Rule)) :
 -- that jumps is the number beside the rule at which it lands.
 pub record JumpsStayInTheirFiles (files : List SourceFile) : Type 0 where
   pub rules : rules_in (numbered_rules 0 files) ≡ (set_of files).rules
-  pub stay : (above : List (ℕ × Rule)) (file : ℕ) (r : Rule) (below : List (ℕ × Rule)) (name : List ℕ)
+  pub stay : (above : List (ℕ × Rule)) (file : ℕ) (r : Rule) (below : List (ℕ × Rule)) (name : Text)
       → numbered_rules 0 files ≡ above ++ (file, r) ∷ below → r.goto ≡ Some name → LandsIn file name below

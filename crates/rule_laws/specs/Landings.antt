@@ -1,10 +1,11 @@
 -- Jumps of rules as a relation, apart from how they are found.
-use Rattle.std.specs.Prelude.{◌≡◌, ◌↔◌, ℕ, IsTrue, List, ◌∷◌, ◌++◌, length, slice_get, Some}
+use Rattle.std.specs.Prelude.{◌≡◌, ◌↔◌, IsTrue, List, ◌∷◌, ◌++◌, length, slice_get, Some}
+use Rattle.text_bytes.specs.Text.{Text}
 use Rattle.rule_jumps.specs.Jumps.{Names}
 use Rattle.rule_jumps.specs.declared.jumps.Landing.{Landing}
 
 -- a rule of these has the label
-pub record HasLabel (name : List ℕ) (rules : List Names) : Type 0 where
+pub record HasLabel (name : Text) (rules : List Names) : Type 0 where
   pub above : List Names
   pub rule : Names
   pub below : List Names
@@ -13,7 +14,7 @@ pub record HasLabel (name : List ℕ) (rules : List Names) : Type 0 where
 
 -- a rule jumps over those between to another: that has its label, and none between has
 pub record JumpsTo (leaving : Names) (between : List Names) (landing : Names) : Type 0 where
-  pub name : List ℕ
+  pub name : Text
   pub goto : leaving.goto ≡ Some name
   pub label : landing.label ≡ Some name
   pub next : ¬ HasLabel name between
@@ -36,13 +37,13 @@ pub record IsReached (before : List Names) (landing : Names) : Type 0 where
 
 -- a rule has a GOTO, and none of the rules after it has the label
 pub record IsLost (rule : Names) (following : List Names) : Type 0 where
-  pub name : List ℕ
+  pub name : Text
   pub goto : rule.goto ≡ Some name
   pub none : ¬ HasLabel name following
 
 -- a rule has a label, and none of the rules before it jumps to it
 pub record IsUnused (before : List Names) (rule : Names) : Type 0 where
-  pub name : List ℕ
+  pub name : Text
   pub label : rule.label ≡ Some name
   pub none : ¬ IsReached before rule
 

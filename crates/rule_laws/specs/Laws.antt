@@ -1,6 +1,7 @@
 -- What is true of the rules of files, whatever is in the files.
-use Rattle.std.specs.Prelude.{◌≡◌, ◌⊎◌, ℕ, true, false, List, [], map, All, Any, Contains, None, Ok}
+use Rattle.std.specs.Prelude.{◌≡◌, ◌⊎◌, true, false, List, [], map, All, Any, Contains, None, Ok}
 use Rattle.std.specs.List.{AllZip}
+use Rattle.text_bytes.specs.Text.{Text}
 use Rattle.text_bytes.specs.declared.source_file.SourceFile.{SourceFile}
 use Rattle.text_bytes.specs.declared.profile.Profile.{Profile}
 use Rattle.rule_core.specs.Lines.{NumberedLine, Piece, is_comment, joined_lines, kept, lines, numbered_from, piece_of, run_number, run_text, runs, unindented}
@@ -15,7 +16,7 @@ abbrev pub well_landed : Landing
 well_landed = record { lost = false; unused = false }
 
 -- a rule is a joined line just as it is written, its jump and its label included, and there is no finding about it
-pub record IsWritten (profile : Profile) (file : List ℕ) (l : NumberedLine) (r : Rule) : Type 0 where
+pub record IsWritten (profile : Profile) (file : Text) (l : NumberedLine) (r : Rule) : Type 0 where
   pub draft : Draft
   pub reads : draft_of profile l.text ≡ Ok draft
   pub is : r ≡ rule_at profile file l.number draft well_landed

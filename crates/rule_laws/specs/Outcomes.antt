@@ -1,5 +1,6 @@
 -- What becomes of each joined line of a file, with its jump decided by the rules after it.
 use Rattle.std.specs.Prelude.{◌≡◌, ◌↔◌, ℕ, List, [], ◌∷◌, ◌++◌, ⊤, map, flat_map, Any, Some, Ok, Err}
+use Rattle.text_bytes.specs.Text.{Text}
 use Rattle.file_messages.specs.declared.message.Message.{Message}
 use Rattle.text_bytes.specs.declared.source_file.SourceFile.{SourceFile}
 use Rattle.text_bytes.specs.declared.profile.Profile.{Profile}
@@ -28,31 +29,31 @@ messages_in (one_rule r messages) = messages
 messages_in (one_message m) = m ∷ []
 
 -- one of these rules has the label
-abbrev pub HasLabel : List ℕ → List Rule → Type 0
+abbrev pub HasLabel : Text → List Rule → Type 0
 HasLabel name rules = Any (λ r. r.label ≡ Some name) rules
 
 -- a line is read as a rule, which has its jump if and only if a rule after it has the label
-pub record IsRule (profile : Profile) (file : List ℕ) (l : NumberedLine) (r : Rule) (messages : List Message) (following : List Rule) : Type 0 where
+pub record IsRule (profile : Profile) (file : Text) (l : NumberedLine) (r : Rule) (messages : List Message) (following : List Rule) : Type 0 where
   pub draft : Draft
   pub landing : Landing
   pub reads : draft_of profile l.text ≡ Ok draft
   pub is : r ≡ rule_at profile file l.number draft landing
   pub reported : messages ≡ map (message_at file l.number) (findings_of draft landing)
-  pub jump : (name : List ℕ) → (r.goto ≡ Some name) ↔ ((name_of draft.goto ≡ Some name) × HasLabel name following)
+  pub jump : (name : Text) → (r.goto ≡ Some name) ↔ ((name_of draft.goto ≡ Some name) × HasLabel name following)
 
 -- a line is not a rule, and the message says why
-pub record IsNoRule (profile : Profile) (file : List ℕ) (l : NumberedLine) (m : Message) : Type 0 where
+pub record IsNoRule (profile : Profile) (file : Text) (l : NumberedLine) (m : Message) : Type 0 where
   pub wrong : Spot MessageKind
   pub reads : draft_of profile l.text ≡ Err wrong
   pub is : m ≡ message_at file l.number wrong
 
 -- this becomes of a line that is before these rules
-abbrev pub Becomes : Profile → List ℕ → NumberedLine → LineOutcome → List Rule → Type 0
+abbrev pub Becomes : Profile → Text → NumberedLine → LineOutcome → List Rule → Type 0
 Becomes profile file l (one_rule r messages) following = IsRule profile file l r messages following
 Becomes profile file l (one_message m) following = IsNoRule profile file l m
 
 -- these become of lines, line by line
-abbrev pub AllBecome : Profile → List ℕ → List NumberedLine → List LineOutcome → Type 0
+abbrev pub AllBecome : Profile → Text → List NumberedLine → List LineOutcome → Type 0
 AllBecome profile file [] [] = ⊤
 AllBecome profile file [] (o ∷ outcomes) = ⊥
 AllBecome profile file (l ∷ lines) [] = ⊥

@@ -1,6 +1,7 @@
 -- In which order the assignments of a rule are evaluated, in terms of how their values are written.
 use Rattle.std.specs.Prelude.{◌≡◌, ◌↔◌, ◌⊎◌, ◌<◌, ◌≤◌, ◌+◌, ◌==◌, ℕ, Bool, true, List, [], ◌∷◌, ◌++◌, Option, Some, None, length, map, filter, All}
 use Rattle.std.specs.List.{AllByRecursion}
+use Rattle.text_bytes.specs.Text.{Text}
 use Rattle.text_bytes.specs.Names.{digit_zero, dollar, is_blank, open_bracket, percent}
 use Rattle.rule_tokens.specs.Grammar.{AllAre}
 use Rattle.rule_types.specs.WrittenParts.{key_of_act_kind, key_of_change, type_of}
@@ -16,20 +17,20 @@ use Rattle.rule_types.specs.declared.part.Change.TheVariants as change
 use Rattle.rule_types.specs.declared.roles.Target.TheVariants as target
 
 -- a text has a byte somewhere
-pub record HasByte (byte : ℕ) (text : List ℕ) : Type 0 where
-  pub before : List ℕ
-  pub following : List ℕ
+pub record HasByte (byte : ℕ) (text : Text) : Type 0 where
+  pub before : Text
+  pub following : Text
   pub cut : text ≡ before ++ byte ∷ following
 
 -- a text has a `$` or a `%`, or begins with `[`
-abbrev pub HasSubstitution : List ℕ → Type 0
-HasSubstitution text = HasByte dollar text ⊎ (HasByte percent text ⊎ ((rest : List ℕ) × (text ≡ open_bracket ∷ rest)))
+abbrev pub HasSubstitution : Text → Type 0
+HasSubstitution text = HasByte dollar text ⊎ (HasByte percent text ⊎ ((rest : Text) × (text ≡ open_bracket ∷ rest)))
 
 -- a text writes a mode, which is at most 7777: blanks, zeros, and one to four octal digits
-pub record WritesMode (text : List ℕ) : Type 0 where
-  pub blanks : List ℕ
-  pub zeros : List ℕ
-  pub digits : List ℕ
+pub record WritesMode (text : Text) : Type 0 where
+  pub blanks : Text
+  pub zeros : Text
+  pub digits : Text
   pub written : text ≡ blanks ++ (zeros ++ map (λ d. digit_zero + d) digits)
   pub blank : AllAre is_blank blanks
   pub are_zero : AllAre (λ b. b == digit_zero) zeros

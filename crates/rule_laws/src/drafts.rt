@@ -1,5 +1,6 @@
 //! Laws of drafts, each the contract of a function with an empty body.
-ghost use Rattle.std.specs.Prelude.{◌≡◌, ◌↔◌, [], None, Some, List, filter_map, slice_get, ℕ};
+ghost use Rattle.std.specs.Prelude.{◌≡◌, ◌↔◌, [], None, Some, List, filter_map, slice_get};
+ghost use Rattle.text_bytes.specs.Text.{Text};
 ghost use Rattle.text_bytes.specs.declared.profile.Profile.{Profile};
 ghost use Rattle.text_bytes.specs.declared.profile.Profile.TheVariants.{Manual};
 ghost use Rattle.rule_types.specs.WrittenParts.{key_of_change};
@@ -48,5 +49,5 @@ pub fn names_given_again_are_reported()
 /// if each gap between tokens is blanks, one comma and blanks, at least one of them, only blanks are at the end,
 /// and no operator is read as `=`.
 pub fn plain_lines_are_passed()
-    ensures { (line : List ℕ) (tokens : List Placed) → items_of line ≡ answers tokens None → (style_findings Manual line tokens ≡ []) ↔ IsPlain line tokens }
+    ensures { (line : Text) (tokens : List Placed) → items_of line ≡ answers tokens None → (style_findings Manual line tokens ≡ []) ↔ IsPlain line tokens }
 {}

@@ -1,7 +1,8 @@
 //! What is true of jumps and labels, in terms of the places of rules and not of how they are found.
 //!
 //! Each function here is empty: its contract is the law.
-ghost use Rattle.std.specs.Prelude.{◌≡◌, ◌↔◌, ℕ, List, Some};
+ghost use Rattle.std.specs.Prelude.{◌≡◌, ◌↔◌, List, Some};
+ghost use Rattle.text_bytes.specs.Text.{Text};
 ghost use Rattle.rule_jumps.specs.Jumps.{Names, landings};
 ghost use Rattle.rule_laws.specs.Landings.{AreLandings, HasLabel, Reaches};
 ghost use Rattle.rule_jumps.specs.declared.jumps.Landing.{Landing};
@@ -14,5 +15,5 @@ pub fn each_rule_has_its_landing()
 
 /// If later rules have the label of a rule's GOTO, the rule jumps to one of them: the first.
 pub fn a_jump_that_is_not_lost_reaches_a_rule()
-    ensures { (rule : Names) (following : List Names) (name : List ℕ) → rule.goto ≡ Some name → HasLabel name following → Reaches rule following }
+    ensures { (rule : Names) (following : List Names) (name : Text) → rule.goto ≡ Some name → HasLabel name following → Reaches rule following }
 {}

@@ -2,6 +2,7 @@
 use Rattle.std.specs.Prelude.{ℕ, Bool, true, false, not, ◌&&◌, ◌||◌, ◌==◌, nat_eq, if◌then◌else◌, List, [], ◌∷◌, Option, Some, None, is_none, take, codes}
 use Rattle.std.specs.List.{ends_with, list_any, prefix_len}
 use Rattle.std.specs.Option.{option_and_then}
+use Rattle.text_bytes.specs.Text.{Text}
 use Rattle.text_bytes.specs.Names.{bar, double_quote, equals, is_blank, single_quote, slash}
 use Rattle.text_bytes.specs.Texts.{begins_with, unindented}
 use Rattle.rule_types.specs.declared.part.Change.{Change}
@@ -33,19 +34,19 @@ abbrev pub greater : ℕ
 greater = 62
 
 -- the program that RUN runs in the end, with its words
-abbrev pub run_command : Change → Option (List ℕ)
+abbrev pub run_command : Change → Option Text
 run_command (change.Run None t) = Some t.written
 run_command (change.Run (Some run_of.Program) t) = Some t.written
 run_command _ = None
 
 -- the program that PROGRAM or IMPORT runs, with its words
-abbrev pub asked_command : ActKind → Option (List ℕ)
+abbrev pub asked_command : ActKind → Option Text
 asked_command (act_kind.Program t) = Some t.written
 asked_command (act_kind.Import (import.Program t)) = Some t.written
 asked_command _ = None
 
 -- the program that a part of a rule runs, with its words
-abbrev pub command_of : Part → Option (List ℕ)
+abbrev pub command_of : Part → Option Text
 command_of (part.Set a) = run_command a.change
 command_of (part.Act a) = asked_command a.kind
 command_of _ = None
@@ -60,56 +61,56 @@ open_after None b = if is_quote b then Some b else None
 open_after (Some quote) b = if b == quote then None else Some quote
 
 -- whether a word ends before this text: it begins with a space or a tab, or is empty
-abbrev pub is_word_end : List ℕ → Bool
+abbrev pub is_word_end : Text → Bool
 is_word_end [] = true
 is_word_end (b ∷ text) = is_blank b
 
 -- whether a text goes on like one after a `>` of the shell: with the end of a word, a path, a `&` or another `>`
-abbrev pub is_redirected : List ℕ → Bool
+abbrev pub is_redirected : Text → Bool
 is_redirected text = (is_word_end text || begins_with slash text) || (begins_with ampersand text || begins_with greater text)
 
 -- whether a byte is a sign of the shell before this text: `|`, `;` or `&` at the end of a word, `>` before its target, or
 -- `&` and another `&`
-abbrev pub is_shell_sign : ℕ → List ℕ → Bool
+abbrev pub is_shell_sign : ℕ → Text → Bool
 is_shell_sign b text = ((b == bar || (b == semicolon || b == ampersand))
     && is_word_end text) || ((b == greater && is_redirected text) || (b == ampersand && begins_with ampersand text))
 
 -- whether a text has a sign of the shell outside of quotes, if this quote is open before it
-abbrev pub has_sign_after : Option ℕ → List ℕ → Bool
+abbrev pub has_sign_after : Option ℕ → Text → Bool
 has_sign_after opened [] = false
 has_sign_after opened (b ∷ text) = (is_none opened && is_shell_sign b text) || has_sign_after (open_after opened b) text
 
 -- whether a command has a sign of the shell outside of quotes
-abbrev pub has_shell_sign : List ℕ → Bool
+abbrev pub has_shell_sign : Text → Bool
 has_shell_sign command = has_sign_after None command
 
 -- the first word of a command
-abbrev pub first_word : List ℕ → List ℕ
+abbrev pub first_word : Text → Text
 first_word command = let words = unindented command in take (prefix_len (λ b. not (is_blank b)) words) words
 
 -- the name of the program of a command: what follows the last `/` of its first word
-abbrev pub program_name : List ℕ → List ℕ
+abbrev pub program_name : Text → Text
 program_name command = rest_after_last slash (first_word command)
 
 -- the shells
-abbrev pub shells : List (List ℕ)
+abbrev pub shells : List Text
 shells = codes "sh" ∷ codes "ash" ∷ codes "bash" ∷ codes "dash" ∷ codes "ksh" ∷ codes "zsh" ∷ []
 
 -- whether a word is what only a shell reads as a first one: a home folder, or a variable that is set
-abbrev pub is_shell_word : List ℕ → Bool
+abbrev pub is_shell_word : Text → Bool
 is_shell_word word = begins_with tilde word || has_byte equals (before_first slash word)
 
 -- a command, if it has a sign of the shell, or begins as only one of the shell does, and no shell runs it
-abbrev pub lacks_shell : List ℕ → Option (List ℕ)
+abbrev pub lacks_shell : Text → Option Text
 lacks_shell command =
     if (has_shell_sign command || is_shell_word (first_word command)) && not (is_among shells (program_name command)) then Some command else None
 
 -- the value with which W2 is reported
-abbrev pub shell_command : Part → Option (List ℕ)
+abbrev pub shell_command : Part → Option Text
 shell_command p = option_and_then lacks_shell (command_of p)
 
 -- commands that are in /usr/bin or /usr/sbin, and not in /usr/lib/udev, where udev looks for a program without a path
-abbrev pub commands_elsewhere : List (List ℕ)
+abbrev pub commands_elsewhere : List Text
 commands_elsewhere =
     codes "bash" ∷ codes "chgrp" ∷ codes "chmod" ∷ codes "chown" ∷ codes "cp" ∷ codes "date" ∷ codes "echo" ∷ codes "ethtool"
     ∷ codes "ifconfig" ∷ codes "ip" ∷ codes "iw" ∷ codes "kill" ∷ codes "ln" ∷ codes "logger" ∷ codes "mkdir"
@@ -118,32 +119,32 @@ commands_elsewhere =
     ∷ codes "systemd-run" ∷ codes "sysctl" ∷ codes "tee" ∷ codes "touch" ∷ codes "udevadm" ∷ codes "umount" ∷ []
 
 -- the suffixes of scripts
-abbrev pub script_suffixes : List (List ℕ)
+abbrev pub script_suffixes : List Text
 script_suffixes = codes ".sh" ∷ codes ".py" ∷ []
 
 -- whether a word is the name of a script, without a path
-abbrev pub is_bare_script : List ℕ → Bool
+abbrev pub is_bare_script : Text → Bool
 is_bare_script word = not (has_byte slash word) && list_any (λ suffix. ends_with nat_eq word suffix) script_suffixes
 
 -- a command, if its first word is the name of one that is elsewhere, or of a script
-abbrev pub lacks_path : List ℕ → Option (List ℕ)
+abbrev pub lacks_path : Text → Option Text
 lacks_path command = if is_among commands_elsewhere (first_word command) || is_bare_script (first_word command) then Some command else None
 
 -- the value with which W3 is reported
-abbrev pub relative_program : Part → Option (List ℕ)
+abbrev pub relative_program : Part → Option Text
 relative_program p = option_and_then lacks_path (option_and_then run_command (change_of p))
 
 -- programs that can't do their work in the sandbox where udev runs commands: those that mount and unmount, and those
 -- that use the network (udev(7), "RUN")
-abbrev pub forbidden_programs : List (List ℕ)
+abbrev pub forbidden_programs : List Text
 forbidden_programs =
     codes "curl" ∷ codes "fusermount" ∷ codes "fusermount3" ∷ codes "mount" ∷ codes "ntfs-3g" ∷ codes "ping" ∷ codes "rsync" ∷ codes "scp"
     ∷ codes "ssh" ∷ codes "sshfs" ∷ codes "umount" ∷ codes "wget" ∷ []
 
 -- a command, if its program is one of these
-abbrev pub is_forbidden : List ℕ → Option (List ℕ)
+abbrev pub is_forbidden : Text → Option Text
 is_forbidden command = if is_among forbidden_programs (program_name command) then Some command else None
 
 -- the value with which W24 is reported
-abbrev pub forbidden_command : Part → Option (List ℕ)
+abbrev pub forbidden_command : Part → Option Text
 forbidden_command p = option_and_then is_forbidden (command_of p)

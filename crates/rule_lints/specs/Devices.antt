@@ -1,6 +1,7 @@
 -- W5 and W26: what a rule asks one device for is of different devices, or of network devices.
 use Rattle.std.specs.Prelude.{ℕ, Bool, true, false, not, ◌==◌, nat_eq, if◌then◌else◌, List, [], ◌∷◌, Option, Some, None, codes, unwrap_or}
 use Rattle.std.specs.List.{list_any, starts_with}
+use Rattle.text_bytes.specs.Text.{Text}
 use Rattle.text_bytes.specs.Names.{bar, colon, minus}
 use Rattle.rule_types.specs.declared.part.Part.{Part}
 use Rattle.rule_types.specs.declared.part.Part.TheVariants as part
@@ -20,27 +21,27 @@ use Rattle.rule_lints.specs.declared.devices.Side.TheVariants.{Event, Chain}
 use Rattle.rule_lints.specs.Texts.{has_byte, rest_after_first}
 
 -- attributes of a USB device, and of none of its interfaces
-abbrev pub usb_device_names : List (List ℕ)
+abbrev pub usb_device_names : List Text
 usb_device_names =
     codes "idVendor" ∷ codes "idProduct" ∷ codes "bcdDevice" ∷ codes "bDeviceClass" ∷ codes "bDeviceSubClass" ∷ codes "bDeviceProtocol"
     ∷ codes "bNumConfigurations" ∷ codes "bNumInterfaces" ∷ codes "busnum" ∷ codes "devnum" ∷ []
 
 -- attributes of an interface of a USB device
-abbrev pub usb_interface_names : List (List ℕ)
+abbrev pub usb_interface_names : List Text
 usb_interface_names =
     codes "bInterfaceNumber" ∷ codes "bInterfaceClass" ∷ codes "bInterfaceSubClass" ∷ codes "bInterfaceProtocol"
     ∷ codes "bAlternateSetting" ∷ codes "bNumEndpoints" ∷ []
 
 -- attributes of an input device
-abbrev pub input_names : List (List ℕ)
+abbrev pub input_names : List Text
 input_names = codes "id/vendor" ∷ codes "id/product" ∷ codes "id/version" ∷ codes "id/bustype" ∷ []
 
 -- attributes of a PCI device
-abbrev pub pci_names : List (List ℕ)
+abbrev pub pci_names : List Text
 pci_names = codes "subsystem_vendor" ∷ codes "subsystem_device" ∷ []
 
 -- the kind of devices that alone has an attribute, if that is known
-abbrev pub group_named : List ℕ → Option Group
+abbrev pub group_named : Text → Option Group
 group_named name =
     if is_among usb_device_names name then Some UsbDevice
     else (if is_among usb_interface_names name then Some UsbInterface
@@ -48,14 +49,14 @@ group_named name =
     else (if is_among pci_names name then Some Pci else None)))
 
 -- drivers of interfaces of USB devices, and of no other devices
-abbrev pub interface_drivers : List (List ℕ)
+abbrev pub interface_drivers : List Text
 interface_drivers =
     codes "cdc_acm" ∷ codes "cdc_ether" ∷ codes "cdc_mbim" ∷ codes "cdc_ncm" ∷ codes "ch341" ∷ codes "cp210x" ∷ codes "ftdi_sio" ∷ codes "option"
     ∷ codes "pl2303" ∷ codes "qcserial" ∷ codes "qmi_wwan" ∷ codes "snd-usb-audio" ∷ codes "uas" ∷ codes "usb-storage" ∷ codes "usbhid"
     ∷ codes "uvcvideo" ∷ []
 
 -- the kind of devices that alone is in a subsystem, if that is known
-abbrev pub group_in_subsystem : List ℕ → Option Group
+abbrev pub group_in_subsystem : Text → Option Group
 group_in_subsystem name =
     if same_text name (codes "input") then Some Input
     else (if same_text name (codes "pci") then Some Pci
@@ -67,40 +68,40 @@ group_in_subsystem name =
     else (if same_text name (codes "video4linux") then Some Video else None)))))))
 
 -- what the kernel's names of devices of a kind begin with
-abbrev pub stems : List (List ℕ × Group)
+abbrev pub stems : List (Text × Group)
 stems =
     (codes "ttyUSB", Tty) ∷ (codes "ttyACM", Tty) ∷ (codes "ttyS", Tty) ∷ (codes "sda", Block) ∷ (codes "sdb", Block) ∷ (codes "sdc", Block)
     ∷ (codes "sd[a-z]", Block) ∷ (codes "sd?", Block) ∷ (codes "mmcblk", Block) ∷ (codes "eth", Net) ∷ (codes "wlan", Net) ∷ (codes "hidraw", Hidraw)
     ∷ (codes "video", Video) ∷ []
 
 -- the kind of the first of these stems that a text begins with
-abbrev pub group_by_stem : List (List ℕ × Group) → List ℕ → Option Group
+abbrev pub group_by_stem : List (Text × Group) → Text → Option Group
 group_by_stem [] text = None
 group_by_stem (row ∷ rows) text = if starts_with nat_eq text row.0 then Some row.1 else group_by_stem rows text
 
 -- the kind of devices that alone has the kernel's names that a value asks for; one of several patterns is not known
-abbrev pub group_of_kernel : List ℕ → Option Group
+abbrev pub group_of_kernel : Text → Option Group
 group_of_kernel value = if has_byte bar value then None else group_by_stem stems value
 
 -- the same for a parent: a `:` after a `-` is in the name of an interface of a USB device, as in `1-2:1.0`
-abbrev pub group_of_parent : List ℕ → Option Group
+abbrev pub group_of_parent : Text → Option Group
 group_of_parent value =
     if has_byte bar value then None
     else (if has_byte colon (rest_after_first minus value) then Some UsbInterface else None)
 
 -- the kind of devices that alone has a driver, if that is known
-abbrev pub group_of_driver : List ℕ → Option Group
+abbrev pub group_of_driver : Text → Option Group
 group_of_driver name = if is_among interface_drivers name then Some UsbInterface else None
 
 -- the kind of devices that alone meets a match of the event by `==`
-abbrev pub group_of_plain : PlainKey → List ℕ → Option Group
+abbrev pub group_of_plain : PlainKey → Text → Option Group
 group_of_plain (plain.Attr name) value = group_named name
 group_of_plain plain.Subsystem value = group_in_subsystem value
 group_of_plain plain.Kernel value = group_of_kernel value
 group_of_plain _ value = None
 
 -- the same for a match of one device of the chain
-abbrev pub group_of_up : UpKey → List ℕ → Option Group
+abbrev pub group_of_up : UpKey → Text → Option Group
 group_of_up (up.Attrs name) value = group_named name
 group_of_up up.Subsystems value = group_in_subsystem value
 group_of_up up.Kernels value = group_of_parent value
@@ -165,5 +166,5 @@ abbrev pub stranger : Side → List WrittenPart → Option WrittenPart
 stranger side tokens = stranger_by side None tokens
 
 -- what W5 is reported with: the text in braces, or the key
-abbrev pub asked : Placed → List ℕ
+abbrev pub asked : Placed → Text
 asked t = unwrap_or t.parts.head.attribute t.parts.head.key

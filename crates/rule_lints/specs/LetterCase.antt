@@ -4,6 +4,7 @@ use Rattle.std.specs.Prelude.{codes}
 use Rattle.std.specs.Cmp.Lexicographic.{pointwise}
 use Rattle.std.specs.List.{list_all, list_any, prefix_len, zip}
 use Rattle.std.specs.Option.{option_and_then}
+use Rattle.text_bytes.specs.Text.{Text}
 use Rattle.text_core.specs.declared.item.Item.{Item}
 use Rattle.text_core.specs.declared.item.Item.TheVariants.{Byte, Many}
 use Rattle.rule_types.specs.declared.part.Comparison.{Comparison}
@@ -19,7 +20,7 @@ use Rattle.rule_lints.specs.declared.letter_case.Writing.{Writing}
 use Rattle.rule_lints.specs.declared.letter_case.Writing.TheVariants.{Lower, Prefixed, Alias}
 
 -- attributes in which the kernel writes hexadecimal digits in lower case letters, the address of a network card among them
-abbrev pub lower_names : List (List ℕ)
+abbrev pub lower_names : List Text
 lower_names =
     codes "idVendor" ∷ codes "idProduct" ∷ codes "bcdDevice"
     ∷ codes "bDeviceClass" ∷ codes "bDeviceSubClass" ∷ codes "bDeviceProtocol"
@@ -29,11 +30,11 @@ lower_names =
     ∷ []
 
 -- attributes that several subsystems have, and that are such digits if `0x` comes before them
-abbrev pub prefixed_names : List (List ℕ)
+abbrev pub prefixed_names : List Text
 prefixed_names = codes "vendor" ∷ codes "device" ∷ codes "class" ∷ []
 
 -- how the kernel writes an attribute, if that is known
-abbrev pub writing_named : List ℕ → Option Writing
+abbrev pub writing_named : Text → Option Writing
 writing_named name =
     if is_among lower_names name then Some Lower
     else (if is_among prefixed_names name then Some Prefixed
@@ -70,7 +71,7 @@ abbrev pub is_small_digit : Item → Bool
 is_small_digit item = is_byte_in 97 102 item
 
 -- whether items begin with bytes, one item for each
-abbrev pub begin_with : List ℕ → List Item → Bool
+abbrev pub begin_with : Text → List Item → Bool
 begin_with text items = nat_le (length text) (length items) && list_all (λ pair. is_byte_in pair.0 pair.0 pair.1) (zip text items)
 
 -- whether a lower case digit is among so many items after the first so many
@@ -100,9 +101,9 @@ is_miswritten Prefixed items = (begin_with (codes "0x") items || begin_with (cod
 is_miswritten Alias items = is_small_alias (items_in_place items)
 
 -- the value of a comparison, if case counts in it and an alternative has such a letter
-abbrev pub miswritten : Writing → Comparison → Option (List ℕ)
+abbrev pub miswritten : Writing → Comparison → Option Text
 miswritten writing wanted = if not wanted.blind && list_any (is_miswritten writing) wanted.choice then Some wanted.written else None
 
 -- the value with which W4 is reported
-abbrev pub wrong_case : Part → Option (List ℕ)
+abbrev pub wrong_case : Part → Option Text
 wrong_case p = option_and_then (λ writing. option_and_then (miswritten writing) (comparison_of p)) (writing_of p)

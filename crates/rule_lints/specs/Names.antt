@@ -1,7 +1,8 @@
 -- W8, W9, W10 and W26: names that are given to a device, and a name in quotes.
-use Rattle.std.specs.Prelude.{ℕ, Bool, true, false, not, ◌&&◌, nat_eq, if◌then◌else◌, List, Option, Some, None, codes}
+use Rattle.std.specs.Prelude.{Bool, true, false, not, ◌&&◌, nat_eq, if◌then◌else◌, List, Option, Some, None, codes}
 use Rattle.std.specs.List.{list_any, slice_split, starts_with}
 use Rattle.std.specs.Option.{option_and_then}
+use Rattle.text_bytes.specs.Text.{Text}
 use Rattle.text_bytes.specs.Names.{double_quote, is_blank}
 use Rattle.text_bytes.specs.declared.profile.Profile.{Profile}
 use Rattle.text_bytes.specs.declared.profile.Profile.TheVariants.{Manual, Udev}
@@ -20,7 +21,7 @@ use Rattle.rule_lints.specs.Texts.{has_byte}
 use Rattle.rule_types.specs.Tokens.{WrittenPart}
 
 -- whether a comparison holds for a text
-abbrev pub meets : List ℕ → Comparison → Bool
+abbrev pub meets : Text → Comparison → Bool
 meets text wanted = if is_equal wanted.operator then choice_fits wanted.choice text else not (choice_fits wanted.choice text)
 
 -- whether a match looks at SUBSYSTEM
@@ -38,40 +39,40 @@ abbrev pub is_outside_net : List WrittenPart → Bool
 is_outside_net tokens = list_any (λ w. excludes_net w.part) tokens
 
 -- the text that a change gives to NAME
-abbrev pub name_in : Change → Option (List ℕ)
+abbrev pub name_in : Change → Option Text
 name_in (change.Text target.Name t) = Some t.written
 name_in _ = None
 
 -- the value with which W8 is reported, in a rule that holds for no network device
-abbrev pub name_given : Part → Option (List ℕ)
+abbrev pub name_given : Part → Option Text
 name_given p = option_and_then name_in (change_of p)
 
 -- the text that a change gives to SYMLINK
-abbrev pub links_in : Change → Option (List ℕ)
+abbrev pub links_in : Change → Option Text
 links_in (change.Text target.Symlink t) = Some t.written
 links_in _ = None
 
 -- links, if one of them begins with `/dev/`
-abbrev pub links_with_dev : List ℕ → Option (List ℕ)
+abbrev pub links_with_dev : Text → Option Text
 links_with_dev links = if list_any (λ link. starts_with nat_eq link (codes "/dev/")) (slice_split is_blank links) then Some links else None
 
 -- links that do not become what is written, if one of them begins with `/dev/`: udev itself leaves that out
-abbrev pub links_by : Profile → List ℕ → Option (List ℕ)
+abbrev pub links_by : Profile → Text → Option Text
 links_by Manual links = links_with_dev links
 links_by Udev links = None
 
 -- the value with which W9 is reported
-abbrev pub dev_link : Profile → Part → Option (List ℕ)
+abbrev pub dev_link : Profile → Part → Option Text
 dev_link profile p = option_and_then (links_by profile) (option_and_then links_in (change_of p))
 
 -- the links with which W26 is reported, in a rule for network devices alone: as they have no node, no link is made
-abbrev pub link_given : Part → Option (List ℕ)
+abbrev pub link_given : Part → Option Text
 link_given p = option_and_then links_in (change_of p)
 
 -- a text, if it has a `"`
-abbrev pub with_quote : List ℕ → Option (List ℕ)
+abbrev pub with_quote : Text → Option Text
 with_quote text = if has_byte double_quote text then Some text else None
 
 -- the text in braces with which W10 is reported
-abbrev pub quoted_name : Placed → Option (List ℕ)
+abbrev pub quoted_name : Placed → Option Text
 quoted_name t = option_and_then with_quote t.parts.head.attribute

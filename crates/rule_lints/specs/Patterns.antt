@@ -3,6 +3,7 @@
 use Rattle.std.specs.Prelude.{ℕ, Bool, true, false, not, ◌&&◌, ◌||◌, ◌==◌, nat_eq, if◌then◌else◌, List, [], ◌∷◌, Option, Some, None, codes}
 use Rattle.std.specs.List.{list_all, list_any, slice_split, starts_with}
 use Rattle.std.specs.Option.{option_and_then}
+use Rattle.text_bytes.specs.Text.{Text}
 use Rattle.text_bytes.specs.Names.{backslash, caret, close_brace, close_bracket, comma, dollar, open_brace, plus}
 use Rattle.text_bytes.specs.Texts.{begins_with, ends_in, is_empty}
 use Rattle.text_bytes.specs.declared.profile.Profile.{Profile}
@@ -37,47 +38,47 @@ abbrev pub is_class_letter : ℕ → Bool
 is_class_letter b = b == 100 || (b == 119 || b == 115)
 
 -- whether a text begins with such a letter
-abbrev pub begins_with_class : List ℕ → Bool
+abbrev pub begins_with_class : Text → Bool
 begins_with_class [] = false
 begins_with_class (b ∷ text) = is_class_letter b
 
 -- whether a `\` with such a letter after it is in a text, or a `]` with a `+` after it
-abbrev pub has_class : List ℕ → Bool
+abbrev pub has_class : Text → Bool
 has_class [] = false
 has_class (b ∷ text) = ((b == backslash && begins_with_class text) || (b == close_bracket && begins_with plus text)) || has_class text
 
 -- whether a text has a `(` that no `)` follows: one after the last `)`
-abbrev pub has_open_parenthesis : List ℕ → Bool
+abbrev pub has_open_parenthesis : Text → Bool
 has_open_parenthesis text = has_byte open_parenthesis (rest_after_last close_parenthesis text)
 
 -- whether a text has a `)` that no `(` precedes: one before the first `(`
-abbrev pub has_close_parenthesis : List ℕ → Bool
+abbrev pub has_close_parenthesis : Text → Bool
 has_close_parenthesis text = has_byte close_parenthesis (before_first open_parenthesis text)
 
 -- whether texts between bars are those of a group in parentheses: one of them opens it, and one closes it
-abbrev pub are_of_group : List (List ℕ) → Bool
+abbrev pub are_of_group : List Text → Bool
 are_of_group texts = list_any has_open_parenthesis texts && list_any has_close_parenthesis texts
 
 -- whether a text has a `{`, after it a `,`, and after that a `}`
-abbrev pub has_braces : List ℕ → Bool
+abbrev pub has_braces : Text → Bool
 has_braces text = has_byte close_brace (rest_after_first comma (rest_after_first open_brace text))
 
 -- whether a text is written as a regular expression or with braces, which are not signs of a pattern
-abbrev pub is_expression : List ℕ → Bool
+abbrev pub is_expression : Text → Bool
 is_expression text =
     (begins_with caret text || (starts_with nat_eq text (codes ".*") || ends_in dollar text))
     || (has_class text || has_braces text)
 
 -- whether one of the texts between bars is written so, or they are those of a group
-abbrev pub are_expressions : List (List ℕ) → Bool
+abbrev pub are_expressions : List Text → Bool
 are_expressions texts = list_any is_expression texts || are_of_group texts
 
 -- the value of a comparison, if its alternatives, as texts between bars, are written so
-abbrev pub expression_in : Comparison → Option (List ℕ)
+abbrev pub expression_in : Comparison → Option Text
 expression_in wanted = if are_expressions (slice_split is_bar wanted.written) then Some wanted.written else None
 
 -- the value with which W11 is reported
-abbrev pub expression : Part → Option (List ℕ)
+abbrev pub expression : Part → Option Text
 expression p = option_and_then expression_in (comparison_of p)
 
 -- whether items take any text
@@ -110,7 +111,7 @@ abbrev pub always_holds : Part → Bool
 always_holds p = looks_at_all p && some_met_by_all (comparison_of p)
 
 -- whether a value is `?*`
-abbrev pub is_something : List ℕ → Bool
+abbrev pub is_something : Text → Bool
 is_something value = same_text value (codes "?*")
 
 -- whether a match of the event looks at several texts, or at none: udev then takes `?*` to ask that none of them is
@@ -126,13 +127,13 @@ is_of_tags up.Tags = true
 is_of_tags _ = false
 
 -- the value of what acts that a pattern, or a file, may be meant by: udev takes `?*` to reverse the operator
-abbrev pub value_of_act : ActKind → Option (List ℕ)
+abbrev pub value_of_act : ActKind → Option Text
 value_of_act (act_kind.Test mask t) = Some t.written
 value_of_act (act_kind.Import (import.Parent names value)) = Some value
 value_of_act _ = None
 
 -- whether there is a value, and it is `?*`
-abbrev pub is_some_something : Option (List ℕ) → Bool
+abbrev pub is_some_something : Option Text → Bool
 is_some_something None = false
 is_some_something (Some value) = is_something value
 

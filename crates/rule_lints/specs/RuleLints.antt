@@ -1,6 +1,7 @@
 -- What is reported for a rule by itself.
-use Rattle.std.specs.Prelude.{ℕ, Bool, true, false, if◌then◌else◌, List, [], ◌∷◌, ◌++◌, Option, Some, None, option_map}
+use Rattle.std.specs.Prelude.{Bool, true, false, if◌then◌else◌, List, [], ◌∷◌, ◌++◌, Option, Some, None, option_map}
 use Rattle.std.specs.List.{filter_map}
+use Rattle.text_bytes.specs.Text.{Text}
 use Rattle.text_bytes.specs.declared.profile.Profile.{Profile}
 use Rattle.rule_tokens.specs.Grammar.{Placed}
 use Rattle.rule_lints.specs.declared.lint.Lint.{Lint}
@@ -19,7 +20,7 @@ use Rattle.rule_types.specs.Tokens.{WrittenPart}
 use Rattle.rule_types.specs.declared.spot.Spot.{Spot}
 
 -- the text with which a lint of single tokens is reported for this one, if it is reported
-abbrev pub word_of : Profile → Lint → WrittenPart → Option (List ℕ)
+abbrev pub word_of : Profile → Lint → WrittenPart → Option Text
 word_of profile ModeNotOctal w = wrong_mode profile w.part
 word_of profile SignOfShell w = shell_command w.part
 word_of profile RelativeProgram w = relative_program w.part
@@ -53,11 +54,11 @@ is_of_key LinkOfNet = false
 is_of_key _ = true
 
 -- a lint about a token, reported with a text
-abbrev pub spot_of : Lint → Placed → List ℕ → Spot Lint
+abbrev pub spot_of : Lint → Placed → Text → Spot Lint
 spot_of lint t word = if is_of_key lint then spot_at_key lint word t else value_spot lint word t
 
 -- a lint about a token, if there is a text with which it is reported
-abbrev pub spots_with : Lint → Placed → Option (List ℕ) → List (Spot Lint)
+abbrev pub spots_with : Lint → Placed → Option Text → List (Spot Lint)
 spots_with lint t None = []
 spots_with lint t (Some word) = spot_of lint t word ∷ []
 

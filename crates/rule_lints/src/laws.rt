@@ -1,6 +1,7 @@
 //! Laws of the lints of one rule, each the contract of a function with an empty body.
-ghost use Rattle.std.specs.Prelude.{◌≡◌, ◌↔◌, ℕ, List, Option, None, Some, true, false, codes};
+ghost use Rattle.std.specs.Prelude.{◌≡◌, ◌↔◌, List, Option, None, Some, true, false, codes};
 ghost use Rattle.std.specs.List.{list_any};
+ghost use Rattle.text_bytes.specs.Text.{Text};
 ghost use Rattle.text_core.specs.Fits.{fits};
 ghost use Rattle.text_core.specs.declared.item.Item.{Item};
 ghost use Rattle.rule_lints.specs.Commands.{has_shell_sign, is_forbidden, lacks_path, lacks_shell};
@@ -30,27 +31,27 @@ ghost use Rattle.rule_types.specs.Tokens.{WrittenPart};
 /// A text gives a mode if and only if it is one octal digit or more, and nothing else, of a number of at most 7777.
 #[tactic(auto, using(crate::proofs::ModeLaw::modes_written))]
 pub fn modes_are_octal_numbers()
-    ensures { (text : List ℕ) → (is_mode text ≡ true) ↔ WritesMode text }
+    ensures { (text : Text) → (is_mode text ≡ true) ↔ WritesMode text }
 {}
 
 /// A sign of the shell is reported if and only if it follows bytes and whole quoted parts, so outside of quotes.
 #[tactic(auto, using(crate::proofs::SignLaw::signs_outside))]
 pub fn signs_are_outside_of_quotes()
-    ensures { (command : List ℕ) → (has_shell_sign command ≡ true) ↔ HasSignOutside command }
+    ensures { (command : Text) → (has_shell_sign command ≡ true) ↔ HasSignOutside command }
 {}
 
 /// A pattern that is reported for its capital letters fits no text without one, so nothing that the kernel writes
 /// in lower case letters.
 #[tactic(auto, using(crate::proofs::FitLaws::capital_kept))]
 pub fn capital_letters_are_never_written()
-    ensures { (items : List Item) (text : List ℕ) → list_any is_capital items ≡ true → fits items text ≡ true → has_capital text ≡ true }
+    ensures { (items : List Item) (text : Text) → list_any is_capital items ≡ true → fits items text ≡ true → has_capital text ≡ true }
 {}
 
 /// A pattern of an alias that is reported for its lower case digits fits only aliases that have a lower case digit
 /// in a number of their device, which the kernel writes in capital ones.
 #[tactic(auto, using(crate::proofs::AliasLaw::aliases_kept))]
 pub fn small_digits_of_aliases_are_never_written()
-    ensures { (items : List Item) (text : List ℕ) → is_small_alias (items_in_place items) ≡ true → fits items text ≡ true → is_small_text text ≡ true }
+    ensures { (items : List Item) (text : Text) → is_small_alias (items_in_place items) ≡ true → fits items text ≡ true → is_small_text text ≡ true }
 {}
 
 /// No token is reported because of its device if and only if no two tokens of a side ask for different kinds of devices.
@@ -92,19 +93,19 @@ pub fn some_kinds_of_devices()
 /// Braces are reported if and only if a comma is between them.
 #[tactic(auto, using(crate::proofs::BraceLaw::braces))]
 pub fn braces_have_a_comma()
-    ensures { (text : List ℕ) → (has_braces text ≡ true) ↔ HasBraces text }
+    ensures { (text : Text) → (has_braces text ≡ true) ↔ HasBraces text }
 {}
 
 /// An open parenthesis is reported if and only if no closing one follows it.
 #[tactic(auto, using(crate::proofs::ParenthesisLaw::parentheses))]
 pub fn open_parentheses_are_not_closed()
-    ensures { (text : List ℕ) → (has_open_parenthesis text ≡ true) ↔ HasOpenParenthesis text }
+    ensures { (text : Text) → (has_open_parenthesis text ≡ true) ↔ HasOpenParenthesis text }
 {}
 
 /// A match is reported as one that always holds if and only if each text fits it.
 #[tactic(auto, using(crate::proofs::FitLaws::any_text_fits))]
 pub fn what_always_holds_fits_each_text()
-    ensures { (items : List Item) → (take_all items ≡ true) ↔ ((text : List ℕ) → fits items text ≡ true) }
+    ensures { (items : List Item) → (take_all items ≡ true) ↔ ((text : Text) → fits items text ≡ true) }
 {}
 
 /// Values of MODE, of which some are reported; udev passes over blanks before the digits.
@@ -192,7 +193,7 @@ pub fn something_of_members_is_no_pattern()
     ensures symlink { (wanted : Comparison) → is_no_pattern Udev (part.Plain (record { key = plain.Symlink; wanted = wanted }))
         ≡ same_text wanted.written (codes "?*") }
     ensures tags { (wanted : Comparison) → is_no_pattern Udev (part.Up (record { key = up.Tags; wanted = wanted })) ≡ same_text wanted.written (codes "?*") }
-    ensures test { (operator : MatchOperator) (mask : Option (List ℕ)) (path : Template)
+    ensures test { (operator : MatchOperator) (mask : Option Text) (path : Template)
         → is_no_pattern Udev (part.Act (record { operator = operator; kind = act_kind.Test mask path })) ≡ same_text path.written (codes "?*") }
     ensures kernel { (wanted : Comparison) → is_no_pattern Udev (part.Plain (record { key = plain.Kernel; wanted = wanted })) ≡ false }
     ensures manual { (p : Part) → is_no_pattern Manual p ≡ false }

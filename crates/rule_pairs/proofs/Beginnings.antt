@@ -1,7 +1,7 @@
 -- Of two texts with which one text begins, one begins with the other.
 use Rattle.std.proofs.Common.{◌≡◌, Bool, true, false, not, ◌&&◌, ◌||◌, nat_eq, [], ◌∷◌, refl, ap, sym, ◌∙◌, true≢false, eqb-true, eq-eqb}
 use Rattle.std.specs.List.{starts_with}
-use Rattle.text_tables.specs.Texts.{Text}
+use Rattle.text_bytes.specs.Text.{Text}
 use Rattle.text_bytes.specs.Texts.{is_empty}
 use Rattle.rule_pairs.specs.Relations.{part_ways}
 

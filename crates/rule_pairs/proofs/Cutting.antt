@@ -3,7 +3,7 @@ use Rattle.std.proofs.Common.{◌≡◌, ℕ, ◌+◌, List, take, drop, Some, N
 use Rattle.std.specs.List.{position, slice_split}
 use Rattle.text_core.specs.Choices.{is_bar}
 use Rattle.text_core.proofs.Cutting.{split_none, split_some}
-use Rattle.text_tables.specs.Texts.{Text}
+use Rattle.text_bytes.specs.Text.{Text}
 use Rattle.rule_pairs.specs.Words.{with_word}
 use Rattle.std.specs.Prelude.{fold}
 

@@ -4,7 +4,8 @@ use Rattle.std.specs.Cmp.Lexicographic.{bytes_decides}
 use Rattle.std.specs.List.{list_all, slice_split}
 use Rattle.std.specs.Prelude.{◌↔◌}
 use Rattle.text_core.specs.Choices.{is_bar}
-use Rattle.text_tables.specs.Texts.{Text, is_among, same_text, with_text}
+use Rattle.text_bytes.specs.Text.{Text}
+use Rattle.text_tables.specs.Texts.{is_among, same_text, with_text}
 use Rattle.text_tables.proofs.Found.{among_added}
 use Rattle.text_bytes.specs.Texts.{is_empty}
 use Rattle.rule_pairs.specs.Relations.{same_words}

@@ -1,6 +1,7 @@
 -- How a token compares its value, by what the value is.
-use Rattle.std.specs.Prelude.{ℕ, Bool, true, false, not, ◌&&◌, ◌||◌, if◌then◌else◌, List, codes}
+use Rattle.std.specs.Prelude.{Bool, true, false, not, ◌&&◌, ◌||◌, if◌then◌else◌, codes}
 use Rattle.std.specs.List.{list_any, slice_split}
+use Rattle.text_bytes.specs.Text.{Text}
 use Rattle.text_bytes.specs.Texts.{is_empty}
 use Rattle.text_core.specs.Choices.{is_bar}
 use Rattle.text_core.specs.Fnmatch.{is_special}
@@ -30,15 +31,15 @@ is_subsystem key.Subsystem = true
 is_subsystem _ = false
 
 -- the words that each mean all three of them
-abbrev pub any_subsystem : List ℕ → Bool
+abbrev pub any_subsystem : Text → Bool
 any_subsystem text = same_text text (codes "subsystem") || (same_text text (codes "bus") || same_text text (codes "class"))
 
 -- whether a value is a pattern: it has one of `*`, `?` and `[`
-abbrev pub is_pattern : List ℕ → Bool
+abbrev pub is_pattern : Text → Bool
 is_pattern text = list_any is_special text
 
 -- whether one of the texts between bars is empty
-abbrev pub has_empty_part : List ℕ → Bool
+abbrev pub has_empty_part : Text → Bool
 has_empty_part text = list_any is_empty (slice_split is_bar text)
 
 -- the form of texts between bars, by whether they are patterns and whether one of them is empty
@@ -49,7 +50,7 @@ parts_form false true = PlainOrEmpty
 parts_form false false = Plain
 
 -- the form of what a value is compared with
-abbrev pub compared_form : Key → List ℕ → Form
+abbrev pub compared_form : Key → Text → Form
 compared_form k text =
     if is_subsystem k && any_subsystem text then AnySubsystem
     else (if is_empty text || is_something text then Empty
@@ -57,5 +58,5 @@ compared_form k text =
     else parts_form (is_pattern text) (has_empty_part text)))
 
 -- the form of a token of a key and an operator with a value
-unfoldable pub form_of : Key → Operator → List ℕ → Form
+unfoldable pub form_of : Key → Operator → Text → Form
 form_of k o text = if compares o then compared_form k text else Whole

@@ -1,6 +1,7 @@
 -- A token of a rule as it is compared with the others of its rule.
 use Rattle.std.specs.Prelude.{ℕ, ℤ, ◌-◌, Bool, true, false, not, ◌&&◌, if◌then◌else◌, List, [], ◌∷◌, length, Option, Some, None, option_map}
 use Rattle.std.specs.List.{slice_get}
+use Rattle.text_bytes.specs.Text.{Text}
 use Rattle.text_bytes.specs.Names.{is_whitespace}
 use Rattle.rule_tokens.specs.Grammar.{Placed, compares}
 use Rattle.rule_tokens.specs.declared.kinds.Operator.{Operator}
@@ -18,13 +19,13 @@ use Rattle.rule_pairs.specs.declared.form.Form.{Form}
 
 -- a token as it is compared with others
 pub record Said : Type 0 where
-  pub key : List ℕ  -- the name of its key
-  pub kind : List ℕ  -- which kind of the key, by its matter
-  pub name : List ℕ  -- the attribute or the builtin
+  pub key : Text  -- the name of its key
+  pub kind : Text  -- which kind of the key, by its matter
+  pub name : Text  -- the attribute or the builtin
   pub number : Option ℤ  -- the number of its value, if it has one
   pub operator : Operator  -- as it is read
   pub form : Form  -- how its value is compared
-  pub words : List (List ℕ)  -- what it compares with or assigns, each word once
+  pub words : List Text  -- what it compares with or assigns, each word once
   pub blind : Bool  -- whether case is ignored
   pub trims : Bool  -- whether white space at the end of what is compared does not count
 
@@ -50,7 +51,7 @@ opposite op.NotEqual = op.Equal
 opposite o = o
 
 -- an operator, reversed if the value is the pattern that every text but the empty one fits
-abbrev pub opposite_by : List ℕ → Operator → Operator
+abbrev pub opposite_by : Text → Operator → Operator
 opposite_by text o = if is_something text then opposite o else o
 
 -- whether a key is that of an attribute of a device, which may have white space at its end
@@ -65,20 +66,20 @@ is_dark None = false
 is_dark (Some b) = not (is_whitespace b)
 
 -- whether a text ends in a byte that is not white space
-abbrev pub ends_dark : List ℕ → Bool
+abbrev pub ends_dark : Text → Bool
 ends_dark text = is_dark (slice_get text (length text - 1))
 
 -- whether there is a first word, and it ends in a byte that is not white space
-abbrev pub first_ends_dark : List (List ℕ) → Bool
+abbrev pub first_ends_dark : List Text → Bool
 first_ends_dark [] = false
 first_ends_dark (word ∷ words) = ends_dark word
 
 -- whether a token with these words trims what it compares: it asks for an attribute, and its first word has no white space at its end
-abbrev pub trims : Key → Operator → List (List ℕ) → Bool
+abbrev pub trims : Key → Operator → List Text → Bool
 trims k o words = is_attribute k && (compares o && first_ends_dark words)
 
 -- a token of a key by its matter, the operator as it is read, its value, and whether case is ignored
-abbrev pub said_by : Key → Operator → List ℕ → Bool → Matter → Said
+abbrev pub said_by : Key → Operator → Text → Bool → Matter → Said
 said_by k o text blind matter = record {
   key = key_name k;
   kind = matter.kind;

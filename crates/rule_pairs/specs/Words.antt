@@ -3,7 +3,8 @@ use Rattle.std.specs.Prelude.{Bool, if◌then◌else◌, List, [], ◌∷◌, Op
 use Rattle.std.specs.List.{slice_split}
 use Rattle.text_bytes.specs.Texts.{is_empty}
 use Rattle.text_core.specs.Choices.{is_bar}
-use Rattle.text_tables.specs.Texts.{Text, with_text}
+use Rattle.text_bytes.specs.Text.{Text}
+use Rattle.text_tables.specs.Texts.{with_text}
 
 -- words, and one more unless it is empty
 abbrev pub with_word : List Text → Text → List Text

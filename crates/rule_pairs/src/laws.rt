@@ -2,7 +2,8 @@
 ghost use Rattle.std.specs.Prelude.{◌≡◌, ◌≤◌, ◌↔◌, ◌&&◌, [], not, true, false, nat_eq, List, filter, length, option_map};
 ghost use Rattle.std.specs.List.{find, slice_split, starts_with};
 ghost use Rattle.text_core.specs.Choices.{is_bar};
-ghost use Rattle.text_tables.specs.Texts.{Text, is_among};
+ghost use Rattle.text_bytes.specs.Text.{Text};
+ghost use Rattle.text_tables.specs.Texts.{is_among};
 ghost use Rattle.text_bytes.specs.Texts.{is_empty};
 ghost use Rattle.rule_pairs.specs.Pairs.{Pair, finding, is_of_kind, reported_for, same_kind};
 ghost use Rattle.rule_pairs.specs.Relations.{are_alike, is_against, is_same, part_ways, same_words};

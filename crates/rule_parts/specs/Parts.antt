@@ -1,6 +1,7 @@
 -- A token, read and checked: the part of a rule that it is, or what is wrong with it.
-use Rattle.std.specs.Prelude.{ℕ, Bool, true, false, not, ◌&&◌, nat_eq, if◌then◌else◌, List, Option, Some, None, is_some, Result, Ok, Err, ◌≡◌, [], ◌⊎◌, codes}
+use Rattle.std.specs.Prelude.{Bool, true, false, not, ◌&&◌, nat_eq, if◌then◌else◌, Option, Some, None, is_some, Result, Ok, Err, ◌≡◌, [], ◌⊎◌, codes}
 use Rattle.std.specs.Cmp.Lexicographic.{pointwise}
+use Rattle.text_bytes.specs.Text.{Text}
 use Rattle.file_messages.specs.declared.message.MessageKind.TheVariants.{UnknownKey, OperatorNotAllowed, WrongAttribute, BadValue}
 use Rattle.text_bytes.specs.declared.profile.Profile.{Profile}
 use Rattle.text_bytes.specs.declared.profile.Profile.TheVariants.{Manual, Udev}
@@ -45,7 +46,7 @@ if_found None wrong next = Err wrong
 if_found (Some x) wrong next = next x
 
 -- the value of a token with its escapes read
-abbrev pub meaning_of : Placed → List ℕ
+abbrev pub meaning_of : Placed → Text
 meaning_of t = unquoted t.parts.quote t.parts.value
 
 -- whether a value asks for its case to be ignored
@@ -56,11 +57,11 @@ ignores_case quote.Blind = true
 ignores_case quote.BlindEscaped = true
 
 -- the patterns that something is compared with
-unfoldable pub comparison : Profile → MatchOperator → Bool → List ℕ → Result Comparison Finding
+unfoldable pub comparison : Profile → MatchOperator → Bool → Text → Result Comparison Finding
 comparison profile o blind text = made (λ c. record { operator = o; blind = blind; written = text; choice = c }) (read_choice profile blind text)
 
 -- the value of an IMPORT of a type
-unfoldable pub import_by : Profile → ImportType → List ℕ → Result Import Finding
+unfoldable pub import_by : Profile → ImportType → Text → Result Import Finding
 import_by profile import_of.Program text = made import.Program (read_template profile text)
 import_by profile import_of.Builtin text = made import.Builtin (read_template profile text)
 import_by profile import_of.File text = made import.File (read_template profile text)
@@ -69,7 +70,7 @@ import_by profile import_of.Cmdline text = Ok (import.Cmdline text)
 import_by profile import_of.Db text = Ok (import.Db text)
 
 -- the part of each role, by its value; whether case is ignored
-unfoldable pub part_by : Profile → Role → Bool → List ℕ → Result Part Finding
+unfoldable pub part_by : Profile → Role → Bool → Text → Result Part Finding
 part_by profile (role.Plain key o) blind text = made (λ c. part.Plain (record { key = key; wanted = c })) (comparison profile o blind text)
 part_by profile (role.Up key o) blind text = made (λ c. part.Up (record { key = key; wanted = c })) (comparison profile o blind text)
 part_by profile (role.Result o) blind text = made part.Result (comparison profile o blind text)
@@ -90,12 +91,12 @@ is_match (role.Result o) = true
 is_match _ = false
 
 -- the type as which udev reads an IMPORT of a type: a program that is a builtin is of the type of builtins
-abbrev pub type_as : ImportType → List ℕ → ImportType
+abbrev pub type_as : ImportType → Text → ImportType
 type_as import_of.Program text = if is_some (builtin_of text) then import_of.Builtin else import_of.Program
 type_as type text = type
 
 -- the pattern that every text but the empty one fits
-abbrev pub is_something : List ℕ → Bool
+abbrev pub is_something : Text → Bool
 is_something text = pointwise nat_eq text (codes "?*")
 
 -- the other of `==` and `!=`
@@ -104,18 +105,18 @@ opposite Equal = NotEqual
 opposite NotEqual = Equal
 
 -- the operator as which udev reads that of TEST, PROGRAM and IMPORT: the value `?*` reverses it
-abbrev pub operator_as : MatchOperator → List ℕ → MatchOperator
+abbrev pub operator_as : MatchOperator → Text → MatchOperator
 operator_as o text = if is_something text then opposite o else o
 
 -- the role as which udev reads a role
-abbrev pub udev_role : Role → List ℕ → Role
+abbrev pub udev_role : Role → Text → Role
 udev_role (role.Test mask o) text = role.Test mask (operator_as o text)
 udev_role (role.Program o) text = role.Program (operator_as o text)
 udev_role (role.Import type o) text = role.Import (type_as type text) (operator_as o text)
 udev_role r text = r
 
 -- the role as which a role is read
-abbrev pub role_as : Profile → Role → List ℕ → Role
+abbrev pub role_as : Profile → Role → Text → Role
 role_as Manual r text = r
 role_as Udev r text = udev_role r text
 
@@ -125,7 +126,7 @@ unless_refused None read = read
 unless_refused (Some found) read = Err found
 
 -- the part of a role with a value; only matches take one that asks for its case to be ignored
-unfoldable pub value_part : Profile → Role → Bool → List ℕ → Result Part Finding
+unfoldable pub value_part : Profile → Role → Bool → Text → Result Part Finding
 value_part profile r blind text =
     if blind && not (is_match r) then Err (finding BadValue text)
     else unless_refused (refusal_by profile r text) (part_by profile (role_as profile r text) blind text)
@@ -148,12 +149,12 @@ unfoldable pub is_read_as_assign : Placed → Bool
 is_read_as_assign t = is_read_so t.parts.head.operator (key_of t.parts.head.key)
 
 -- udev reads an attribute of a key as another one: empty braces of TEST as none, and a program of IMPORT as a builtin
-abbrev pub IsReadAs : Key → Option (List ℕ) → Option (List ℕ) → Type 0
+abbrev pub IsReadAs : Key → Option Text → Option Text → Type 0
 IsReadAs key.Test written read = (written ≡ Some []) × (read ≡ None)
 IsReadAs key.Import written read = (written ≡ Some (import_name import_of.Program)) × (read ≡ Some (import_name import_of.Builtin))
 IsReadAs _ written read = ⊥
 
 -- a part has the attribute of its token, or the one as which udev reads that
-abbrev pub IsWritten : Profile → Option (List ℕ) → Part → Type 0
+abbrev pub IsWritten : Profile → Option Text → Part → Type 0
 IsWritten Manual attribute p = attribute_of_part p ≡ attribute
 IsWritten Udev attribute p = (attribute_of_part p ≡ attribute) ⊎ IsReadAs (key_of_part p) attribute (attribute_of_part p)

@@ -1,5 +1,6 @@
 -- A file that is given up because of a line that is too long.
 use Rattle.std.specs.Prelude.{ℕ, ◌+◌, if◌then◌else◌, List, [], ◌∷◌, length}
+use Rattle.text_bytes.specs.Text.{Text}
 use Rattle.text_bytes.specs.Lines.{NumberedLine, numbered_lines}
 use Rattle.text_bytes.specs.Numbers.{capped}
 use Rattle.file_messages.specs.declared.message.MessageKind.TheVariants.{FileAbandoned}
@@ -20,5 +21,5 @@ long_place [] = file_start
 long_place (l ∷ ls) = if is_too_long l.text then whole_line l else long_place ls
 
 -- what is found in a file that is given up because of the line with a number
-abbrev pub abandoned_findings : List ℕ → ℕ → List (PlacedFinding MessageKind)
+abbrev pub abandoned_findings : Text → ℕ → List (PlacedFinding MessageKind)
 abandoned_findings bytes number = found_at number (long_place (numbered_lines bytes)) FileAbandoned [] ∷ []

@@ -1,5 +1,6 @@
 -- All findings of a rules file, with their places.
 use Rattle.std.specs.Prelude.{ℕ, ◌+◌, List, [], ◌∷◌, ◌++◌, length, map, Option, Some, None}
+use Rattle.text_bytes.specs.Text.{Text}
 use Rattle.file_messages.specs.declared.message.MessageKind.TheVariants.{OpenAtEnd}
 use Rattle.text_bytes.specs.declared.profile.Profile.{Profile}
 use Rattle.text_bytes.specs.declared.source_file.SourceFile.{SourceFile}
@@ -33,12 +34,12 @@ abbrev pub placed_lines : List KeptLine → List (Reading × Landing) → Option
 placed_lines kept lines open_at = placed_from kept 0 lines ++ open_findings kept open_at
 
 -- the findings of the lines of a file with these bytes, by line
-abbrev pub findings_of_lines : Profile → List ℕ → List (PlacedFinding MessageKind)
+abbrev pub findings_of_lines : Profile → Text → List (PlacedFinding MessageKind)
 findings_of_lines profile bytes =
     placed_lines (kept_lines bytes) (landed (map (reading_of profile) (joined_lines profile bytes).lines)) (joined_lines profile bytes).open_at
 
 -- the findings of a file that is given up because of the line with a number, or those of its lines
-abbrev pub findings_unless : Profile → List ℕ → Option ℕ → List (PlacedFinding MessageKind)
+abbrev pub findings_unless : Profile → Text → Option ℕ → List (PlacedFinding MessageKind)
 findings_unless profile bytes None = findings_of_lines profile bytes
 findings_unless profile bytes (Some number) = abandoned_findings bytes number
 

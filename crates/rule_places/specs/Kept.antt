@@ -1,6 +1,7 @@
 -- The lines of a file that are kept, with where they are in the file and among the joined bytes.
 use Rattle.std.specs.Prelude.{ℕ, ◌+◌, ◌-◌, min, nat_le, if◌then◌else◌, List, [], ◌∷◌, length, slice_get, Option, Some, None}
 use Rattle.std.specs.List.{prefix_len}
+use Rattle.text_bytes.specs.Text.{Text}
 use Rattle.text_bytes.specs.Lines.{NumberedLine, numbered_lines}
 use Rattle.text_bytes.specs.Numbers.{capped}
 use Rattle.rule_core.specs.Lines.{is_comment, piece_of, unindented}
@@ -28,7 +29,7 @@ kept_from start [] = []
 kept_from start (l ∷ ls) = kept_before start (kept_line start l) (λ n. kept_from n ls)
 
 -- the kept lines of a file with these bytes
-abbrev pub kept_lines : List ℕ → List KeptLine
+abbrev pub kept_lines : Text → List KeptLine
 kept_lines bytes = kept_from 0 (numbered_lines bytes)
 
 -- the kept line that a byte is in: the last that begins at it or before it

@@ -1,5 +1,6 @@
 -- What the places of kept lines show in a file.
 use Rattle.std.specs.Prelude.{◌≡◌, ◌<◌, ◌≤◌, ℕ, ◌+◌, ◌-◌, ◌⊎◌, List, [], ◌∷◌, ◌++◌, take, drop, length, map, flat_map, Some}
+use Rattle.text_bytes.specs.Text.{Text}
 use Rattle.text_bytes.specs.Lines.{NumberedLine, numbered_lines}
 use Rattle.text_bytes.specs.declared.profile.Profile.{Profile}
 use Rattle.rule_core.specs.Lines.{joined_lines, kept, piece_of, run_text}
@@ -7,7 +8,7 @@ use Rattle.rule_places.specs.Kept.{kept_from, line_at}
 use Rattle.rule_places.specs.declared.kept.KeptLine.{KeptLine}
 
 -- what those of these lines that are kept give to joined lines, one after another
-abbrev pub kept_text : List NumberedLine → List ℕ
+abbrev pub kept_text : List NumberedLine → Text
 kept_text ls = run_text (map piece_of (kept ls))
 
 -- the line is one of these
@@ -18,7 +19,7 @@ IsAmong l (x ∷ xs) = (l ≡ x) ⊎ IsAmong l xs
 -- Among lines, of which these are the kept ones with this text after so many bytes of others, one has the byte of a
 -- place: from its column on the bytes of that line are those of the text, as many as the line has left up to the `\`
 -- at its end, if it has one.
-pub record Shows (kept : List KeptLine) (text : List ℕ) (ls : List NumberedLine) (start at : ℕ) : Type 0 where
+pub record Shows (kept : List KeptLine) (text : Text) (ls : List NumberedLine) (start at : ℕ) : Type 0 where
   pub line : NumberedLine
   pub place : KeptLine
   pub among : IsAmong line ls
@@ -32,10 +33,10 @@ pub record Shows (kept : List KeptLine) (text : List ℕ) (ls : List NumberedLin
       ≡ take (place.size - (at - place.start)) (drop (at - start) text)
 
 -- the line that is found for a byte of a file's kept lines has that byte at the column that is reported, and after it those that follow
-abbrev pub IsShown : List ℕ → ℕ → Type 0
+abbrev pub IsShown : Text → ℕ → Type 0
 IsShown bytes at = Shows (kept_from 0 (numbered_lines bytes)) (kept_text (numbered_lines bytes)) (numbered_lines bytes) 0 at
 
 -- the joined lines of a file are what its kept lines give, one after another; after these only the bytes of an open
 -- line are left
-abbrev pub AreJoined : Profile → List ℕ → Type 0
-AreJoined profile bytes = (left : List ℕ) × (kept_text (numbered_lines bytes) ≡ flat_map (λ l. l.text) (joined_lines profile bytes).lines ++ left)
+abbrev pub AreJoined : Profile → Text → Type 0
+AreJoined profile bytes = (left : Text) × (kept_text (numbered_lines bytes) ≡ flat_map (λ l. l.text) (joined_lines profile bytes).lines ++ left)

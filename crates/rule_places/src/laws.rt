@@ -1,6 +1,7 @@
 //! Laws of places, each the contract of a function with an empty body.
-ghost use Rattle.std.specs.Prelude.{◌≡◌, ◌<◌, ◌-◌, ◌^◌, ◌∷◌, [], List, None, Some, ℕ, drop, length, map, take};
+ghost use Rattle.std.specs.Prelude.{◌≡◌, ◌<◌, ◌-◌, ◌^◌, ◌∷◌, [], None, Some, ℕ, drop, length, map, take};
 ghost use Rattle.std.specs.List.{AllByRecursion};
+ghost use Rattle.text_bytes.specs.Text.{Text};
 ghost use Rattle.text_bytes.specs.Lines.{numbered_lines};
 ghost use Rattle.file_messages.specs.declared.message.MessageKind.TheVariants.{LineTooLong};
 ghost use Rattle.text_bytes.specs.declared.profile.Profile as profiles;
@@ -27,7 +28,7 @@ pub fn findings_are_the_messages()
 /// reported with the bytes that are in the joined line at the place.
 #[tactic(auto, using(crate::proofs::Placement::all_in_place))]
 pub fn words_are_at_their_places()
-    ensures { (by : profiles.Profile) (line : List ℕ) (landing : jumps.Landing)
+    ensures { (by : profiles.Profile) (line : Text) (landing : jumps.Landing)
         → AllByRecursion (IsTextThere line) (line_findings (draft_of by line) landing) }
 {}
 
@@ -35,35 +36,35 @@ pub fn words_are_at_their_places()
 /// that ends a value. For a jump this holds if the rule has a name for it.
 #[tactic(auto, using(crate::proofs::Placement::all_quoted))]
 pub fn values_are_between_quotes()
-    ensures { (by : profiles.Profile) (line : List ℕ) (landing : jumps.Landing)
+    ensures { (by : profiles.Profile) (line : Text) (landing : jumps.Landing)
         → AllByRecursion (IsQuotedThere line) (line_findings (draft_of by line) landing) }
 {}
 
 /// What is said about commas with no key is said about all that follows the last token.
 #[tactic(auto, using(crate::proofs::Placement::all_after))]
 pub fn last_commas_follow_tokens()
-    ensures { (by : profiles.Profile) (line : List ℕ) (landing : jumps.Landing)
+    ensures { (by : profiles.Profile) (line : Text) (landing : jumps.Landing)
         → AllByRecursion (FollowsTokens line) (line_findings (draft_of by line) landing) }
 {}
 
 /// What is said about commas before the first token is said about the whole gap there.
 #[tactic(auto, using(crate::proofs::Placement::all_precede_tokens))]
 pub fn first_commas_precede_tokens()
-    ensures { (by : profiles.Profile) (line : List ℕ) (landing : jumps.Landing)
+    ensures { (by : profiles.Profile) (line : Text) (landing : jumps.Landing)
         → AllByRecursion (PrecedesTokens line) (line_findings (draft_of by line) landing) }
 {}
 
 /// What is said about a rule as a whole is said about its whole line.
 #[tactic(auto, using(crate::proofs::Placement::all_whole))]
 pub fn rules_are_reported_as_a_whole()
-    ensures { (by : profiles.Profile) (line : List ℕ) (landing : jumps.Landing)
+    ensures { (by : profiles.Profile) (line : Text) (landing : jumps.Landing)
         → AllByRecursion (IsWholeLine line) (line_findings (draft_of by line) landing) }
 {}
 
 /// About a line that is too long nothing else is said, and this is said about the whole line.
 #[tactic(auto, using(crate::proofs::Lengths::reported_whole))]
 pub fn long_lines_are_reported_as_a_whole()
-    ensures { (by : profiles.Profile) (line : List ℕ) (landing : jumps.Landing)
+    ensures { (by : profiles.Profile) (line : Text) (landing : jumps.Landing)
         → most_bytes by < length line → line_findings (draft_of by line) landing ≡ spot LineTooLong [] 0 (length line) ∷ [] }
 {}
 
@@ -71,21 +72,21 @@ pub fn long_lines_are_reported_as_a_whole()
 /// in a joined line is one among the bytes of the kept lines.
 #[tactic(auto, using(crate::proofs::Joining::all_joined))]
 pub fn joined_lines_are_kept_lines()
-    ensures { (by : profiles.Profile) (bytes : List ℕ) → AreJoined by bytes }
+    ensures { (by : profiles.Profile) (bytes : Text) → AreJoined by bytes }
 {}
 
 /// The line of the file that is found for a byte of the kept lines has that byte at the column that is reported,
 /// and after it the bytes that follow.
 #[tactic(auto, using(crate::proofs::Showing::all_shown))]
 pub fn places_show_their_bytes()
-    ensures { (bytes : List ℕ) (at : ℕ) → at < length (kept_text (numbered_lines bytes)) → IsShown bytes at }
+    ensures { (bytes : Text) (at : ℕ) → at < length (kept_text (numbered_lines bytes)) → IsShown bytes at }
 {}
 
 /// So many bytes of the kept lines, from a byte on, are in the file at the place that is reported for them, up to
 /// the end of the line that has the first of them.
 #[tactic(auto, using(crate::proofs::Placing::all_placed))]
 pub fn places_are_in_their_lines()
-    ensures { (bytes : List ℕ) (at size : ℕ) → length bytes < 2 ^ 32 - 1 → at < length (kept_text (numbered_lines bytes)) → 0 < size
+    ensures { (bytes : Text) (at size : ℕ) → length bytes < 2 ^ 32 - 1 → at < length (kept_text (numbered_lines bytes)) → 0 < size
         → IsFoundIn bytes (take size (drop at (kept_text (numbered_lines bytes)))) (place_in (kept_lines bytes) at size) }
 {}
 

@@ -1,6 +1,7 @@
 -- What is wrong with the name of an attribute in a rule that stays.
-use Rattle.std.specs.Prelude.{ℕ, Bool, true, false, ◌&&◌, ◌||◌, List, [], ◌∷◌, nat_eq, codes}
+use Rattle.std.specs.Prelude.{Bool, true, false, ◌&&◌, ◌||◌, [], ◌∷◌, nat_eq, codes}
 use Rattle.std.specs.List.{starts_with}
+use Rattle.text_bytes.specs.Text.{Text}
 use Rattle.rule_templates.specs.Reading.{is_faulty}
 use Rattle.rule_types.specs.declared.keys.Key.{Key}
 use Rattle.rule_types.specs.declared.keys.Key.TheVariants as key
@@ -18,18 +19,18 @@ is_of_chain key.Attrs = true
 is_of_chain _ = false
 
 -- whether `../` is in a text
-abbrev pub has_way_up : List ℕ → Bool
+abbrev pub has_way_up : Text → Bool
 has_way_up [] = false
 has_way_up (b ∷ text) = starts_with nat_eq (b ∷ text) (codes "../") || has_way_up text
 
 -- whether the name of an attribute leads from its device to another one
-abbrev pub leads_elsewhere : List ℕ → Bool
+abbrev pub leads_elsewhere : Text → Bool
 leads_elsewhere name = starts_with nat_eq name (codes "device/") || has_way_up name
 
 -- whether the attribute of a key has an invalid substitution
-abbrev pub is_bad_name : Key → List ℕ → Bool
+abbrev pub is_bad_name : Key → Text → Bool
 is_bad_name k name = substitutes_in_name k && is_faulty name
 
 -- whether the attribute of a key is one of another device
-abbrev pub is_elsewhere : Key → List ℕ → Bool
+abbrev pub is_elsewhere : Key → Text → Bool
 is_elsewhere k name = is_of_chain k && leads_elsewhere name

@@ -1,5 +1,6 @@
 -- What is true of the remarks.
-use Rattle.std.specs.Prelude.{◌≡◌, ℕ, ◌∷◌, ◌++◌, true, is_ok, List, codes}
+use Rattle.std.specs.Prelude.{◌≡◌, ◌∷◌, ◌++◌, true, is_ok, List, codes}
+use Rattle.text_bytes.specs.Text.{Text}
 use Rattle.text_bytes.specs.Lines.{NumberedLine}
 use Rattle.text_bytes.specs.declared.profile.Profile.TheVariants.{Udev}
 use Rattle.file_messages.specs.declared.message.MessageKind.{MessageKind}
@@ -10,9 +11,9 @@ use Rattle.rule_places.specs.declared.placed_finding.PlacedFinding.{PlacedFindin
 use Rattle.rule_remarks.specs.Remarks.{is_program, is_result}
 
 -- a text has `../` in it
-pub record HasWayUp (text : List ℕ) : Type 0 where
-  pub prefix : List ℕ
-  pub following : List ℕ
+pub record HasWayUp (text : Text) : Type 0 where
+  pub prefix : Text
+  pub following : Text
   pub whole : text ≡ prefix ++ (codes "../" ++ following)
 
 -- what is reported is reported for one of these lines, which is a rule for udev

@@ -1,6 +1,7 @@
 -- What udev reports about the tokens of a rule that stays, with their places in its line.
-use Rattle.std.specs.Prelude.{ℕ, Bool, true, false, if◌then◌else◌, List, [], ◌∷◌, ◌++◌, flat_map, filter_map, slice_get, Option, Some, None, option_map, codes}
+use Rattle.std.specs.Prelude.{Bool, true, false, if◌then◌else◌, List, [], ◌∷◌, ◌++◌, flat_map, filter_map, slice_get, Option, Some, None, option_map, codes}
 use Rattle.std.specs.List.{find}
+use Rattle.text_bytes.specs.Text.{Text}
 use Rattle.file_messages.specs.declared.message.MessageKind.{MessageKind}
 use Rattle.file_messages.specs.declared.message.MessageKind.TheVariants.{AttributeElsewhere, BadAttributeSubstitution, EmptyValue, ResultBeforeProgram}
 use Rattle.text_tables.specs.Texts.{same_text}
@@ -18,7 +19,7 @@ use Rattle.rule_remarks.specs.Attributes.{is_bad_name, is_elsewhere}
 use Rattle.rule_remarks.specs.Values.{value_fault}
 
 -- what is reported for the attribute of a token, if it has one
-abbrev pub attribute_remarks : Key → Placed → Option (List ℕ) → List (Spot MessageKind)
+abbrev pub attribute_remarks : Key → Placed → Option Text → List (Spot MessageKind)
 attribute_remarks k t None = []
 attribute_remarks k t (Some name) =
     (if is_bad_name k name then attribute_spot BadAttributeSubstitution t ∷ [] else [])

@@ -1,5 +1,6 @@
 -- What udev reports about the rules of a file that stay, with the places in the file.
 use Rattle.std.specs.Prelude.{ℕ, ◌+◌, List, [], ◌∷◌, ◌++◌, length, map, Option, Some, None, Result, Ok, Err}
+use Rattle.text_bytes.specs.Text.{Text}
 use Rattle.text_bytes.specs.declared.profile.Profile.TheVariants.{Udev}
 use Rattle.file_messages.specs.declared.message.MessageKind.{MessageKind}
 use Rattle.rule_jumps.specs.declared.jumps.Landing.{Landing}
@@ -28,10 +29,10 @@ remarks_from accounts kept start (x ∷ lines) =
     map (placed kept x.0.line start) (line_remarks accounts x.0.read) ++ remarks_from accounts kept (start + length x.0.text) lines
 
 -- what is reported for the lines of a file, unless it is given up because of one
-abbrev pub remarks_unless : Accounts → List ℕ → Option ℕ → List (PlacedFinding MessageKind)
+abbrev pub remarks_unless : Accounts → Text → Option ℕ → List (PlacedFinding MessageKind)
 remarks_unless accounts bytes None = remarks_from accounts (kept_lines bytes) 0 (landed (map (reading_of Udev) (joined_lines Udev bytes).lines))
 remarks_unless accounts bytes (Some number) = []
 
 -- what is reported for the rules of a file with these bytes that stay, by line
-unfoldable pub file_remarks : Accounts → List ℕ → List (PlacedFinding MessageKind)
+unfoldable pub file_remarks : Accounts → Text → List (PlacedFinding MessageKind)
 file_remarks accounts bytes = remarks_unless accounts bytes (abandoned Udev bytes)

@@ -1,5 +1,6 @@
 -- What is wrong with the value of a token of a rule that stays.
-use Rattle.std.specs.Prelude.{ℕ, if◌then◌else◌, List, Option, Some, None, codes, ◌||◌}
+use Rattle.std.specs.Prelude.{if◌then◌else◌, Option, Some, None, codes, ◌||◌}
+use Rattle.text_bytes.specs.Text.{Text}
 use Rattle.text_bytes.specs.Texts.{is_empty}
 use Rattle.file_messages.specs.declared.message.MessageKind.{MessageKind}
 use Rattle.file_messages.specs.declared.message.MessageKind.TheVariants.{BadSubstitution, BadValue, EmptyValue, OldSubsystemName, UnknownAccount}
@@ -17,33 +18,33 @@ use Rattle.rule_pairs.specs.declared.accounts.Given.{Given}
 use Rattle.rule_pairs.specs.declared.accounts.Given.TheVariants as given
 
 -- what is wrong with a text in which substitutions may be
-abbrev pub text_fault : List ℕ → Option MessageKind
+abbrev pub text_fault : Text → Option MessageKind
 text_fault text = if is_faulty text then Some BadSubstitution else None
 
 -- the same for a text that must not be empty
-abbrev pub filled_fault : List ℕ → Option MessageKind
+abbrev pub filled_fault : Text → Option MessageKind
 filled_fault text = if is_empty text then Some EmptyValue else text_fault text
 
 -- what is wrong with the name of a subsystem: `bus` and `class` are old names of `subsystem`
-abbrev pub subsystem_fault : List ℕ → Option MessageKind
+abbrev pub subsystem_fault : Text → Option MessageKind
 subsystem_fault text = if same_text text (codes "bus") || same_text text (codes "class") then Some OldSubsystemName else None
 
 -- what is wrong with an option
-abbrev pub option_fault : List ℕ → Option MessageKind
+abbrev pub option_fault : Text → Option MessageKind
 option_fault text = if is_known_option text then None else Some BadValue
 
 -- what is wrong with a value of OWNER or GROUP that gives this
-abbrev pub given_fault : Given → List ℕ → Option MessageKind
+abbrev pub given_fault : Given → Text → Option MessageKind
 given_fault (given.Number n) text = None
 given_fault given.Unknown text = Some UnknownAccount
 given_fault given.Text text = filled_fault text
 
 -- what is wrong with a user or a group
-abbrev pub account_fault : Accounts → AccountKind → List ℕ → Option MessageKind
+abbrev pub account_fault : Accounts → AccountKind → Text → Option MessageKind
 account_fault accounts kind text = given_fault (given_in accounts kind text) text
 
 -- what is wrong with what a key is compared with; substitutions are not looked for in matches
-abbrev pub compared_fault : Key → List ℕ → Option MessageKind
+abbrev pub compared_fault : Key → Text → Option MessageKind
 compared_fault key.Subsystem text = subsystem_fault text
 compared_fault key.Test text = filled_fault text
 compared_fault key.Program text = filled_fault text
@@ -51,7 +52,7 @@ compared_fault key.Import text = filled_fault text
 compared_fault _ text = None
 
 -- what is wrong with what is assigned to a key; the names of LABEL and GOTO have no substitutions
-abbrev pub assigned_fault : Accounts → Key → List ℕ → Option MessageKind
+abbrev pub assigned_fault : Accounts → Key → Text → Option MessageKind
 assigned_fault accounts key.Name text = text_fault text
 assigned_fault accounts key.Symlink text = text_fault text
 assigned_fault accounts key.Env text = text_fault text
@@ -69,5 +70,5 @@ assigned_fault accounts key.Options text = option_fault text
 assigned_fault accounts _ text = None
 
 -- what is wrong with a value of a key after an operator
-unfoldable pub value_fault : Accounts → Key → Operator → List ℕ → Option MessageKind
+unfoldable pub value_fault : Accounts → Key → Operator → Text → Option MessageKind
 value_fault accounts k o text = if compares o then compared_fault k text else assigned_fault accounts k text

@@ -1,6 +1,7 @@
 //! Laws of the remarks, each the contract of a function with an empty body.
 ghost use Rattle.std.specs.Prelude.{◌≡◌, ◌↔◌, [], List, None, Some, codes, is_some, true, ℕ};
 ghost use Rattle.std.specs.List.{AllByRecursion};
+ghost use Rattle.text_bytes.specs.Text.{Text};
 ghost use Rattle.text_bytes.specs.declared.profile.Profile.TheVariants.{Manual, Udev};
 ghost use Rattle.text_bytes.specs.declared.source_file.SourceFile as files;
 ghost use Rattle.rule_tokens.specs.Grammar.{Placed};
@@ -24,20 +25,20 @@ ghost use Rattle.rule_remarks.specs.Rules.{file_remarks, line_remarks};
 /// `../` is found if and only if it is in a text.
 #[tactic(auto, using(crate::proofs::WayUp::ways_up))]
 pub fn ways_up_are_in_their_names()
-    ensures { (text : List ℕ) → (has_way_up text ≡ true) ↔ HasWayUp text }
+    ensures { (text : Text) → (has_way_up text ≡ true) ↔ HasWayUp text }
 {}
 
 /// What is reported for a key or an attribute is reported with the bytes that are in the joined line at the place.
 #[tactic(auto, using(crate::proofs::Placement::words_in_place))]
 pub fn words_are_at_their_places()
-    ensures { (accounts : Accounts) (line : List ℕ) → AllByRecursion (IsTextThere line) (line_remarks accounts (draft_of Udev line)) }
+    ensures { (accounts : Accounts) (line : Text) → AllByRecursion (IsTextThere line) (line_remarks accounts (draft_of Udev line)) }
 {}
 
 /// What is reported for a value is reported for bytes of the joined line between two quotes, with no quote among
 /// them that ends a value.
 #[tactic(auto, using(crate::proofs::Placement::values_in_place))]
 pub fn values_are_between_quotes()
-    ensures { (accounts : Accounts) (line : List ℕ) → AllByRecursion (IsQuotedThere line) (line_remarks accounts (draft_of Udev line)) }
+    ensures { (accounts : Accounts) (line : Text) → AllByRecursion (IsQuotedThere line) (line_remarks accounts (draft_of Udev line)) }
 {}
 
 /// A PROGRAM is reported as late only if a RESULT comes before it, and if one does for any PROGRAM, some PROGRAM is
@@ -59,7 +60,7 @@ pub fn lines_never_fall()
 /// Each remark on a file is reported for a joined line that is a rule for udev.
 #[tactic(auto, using(crate::proofs::OfRules::of_rules))]
 pub fn remarks_are_reported_for_rules()
-    ensures { (accounts : Accounts) (bytes : List ℕ) → AllByRecursion (IsOfRule (joined_lines Udev bytes).lines) (file_remarks accounts bytes) }
+    ensures { (accounts : Accounts) (bytes : Text) → AllByRecursion (IsOfRule (joined_lines Udev bytes).lines) (file_remarks accounts bytes) }
 {}
 
 /// Nothing is reported for no tokens.

@@ -2,6 +2,7 @@
 //!
 //! Each function here is empty: its contract is a law of the definitions.
 ghost use Rattle.std.specs.Prelude.{◌≡◌, ◌≢◌, ◌↔◌, ◌∷◌, ◌++◌, [], ℕ, pos, false, List, Ok, Some, None, codes};
+ghost use Rattle.text_bytes.specs.Text.{Text};
 ghost use Rattle.text_bytes.specs.Names.{dollar, percent};
 ghost use Rattle.text_bytes.specs.declared.profile.Profile.TheVariants.{Udev};
 ghost use Rattle.rule_templates.specs.Grammar.{HasName};
@@ -15,20 +16,20 @@ ghost use Rattle.rule_templates.specs.declared.piece.Piece.TheVariants as piece;
 
 /// udev reports no fault if and only if each piece of a text can be read, and then takes all of them.
 pub fn a_text_without_a_fault_has_its_pieces()
-    ensures faultless { (text : List ℕ) → (is_faulty text ≡ false) ↔ ((pieces : List Piece) × (udev_pieces text ≡ Ok pieces)) }
-    ensures whole { (text : List ℕ) (pieces : List Piece) → udev_pieces text ≡ Ok pieces → left_of text ≡ pieces }
+    ensures faultless { (text : Text) → (is_faulty text ≡ false) ↔ ((pieces : List Piece) × (udev_pieces text ≡ Ok pieces)) }
+    ensures whole { (text : Text) (pieces : List Piece) → udev_pieces text ≡ Ok pieces → left_of text ≡ pieces }
 {}
 
 /// A text writes a natural number if and only if the integer that it writes is not below zero.
 pub fn natural_numbers_are_integers()
-    ensures { (text : List ℕ) (n : ℕ) → (natural_of text ≡ Some n) ↔ (integer_of text ≡ Some (pos n)) }
+    ensures { (text : Text) (n : ℕ) → (natural_of text ≡ Some n) ↔ (integer_of text ≡ Some (pos n)) }
 {}
 
 /// A sign that no name follows stands for itself, and what follows it is read on.
 pub fn an_unknown_sign_is_a_byte()
-    ensures dollar { (text : List ℕ) → ((n : List ℕ) (s : Substitution) (rest : List ℕ) → HasName (long_names_as Udev) n s → text ≢ n ++ rest)
+    ensures dollar { (text : Text) → ((n : Text) (s : Substitution) (rest : Text) → HasName (long_names_as Udev) n s → text ≢ n ++ rest)
         → left_of (dollar ∷ text) ≡ piece.Plain (dollar ∷ []) ∷ left_of text }
-    ensures percent { (text : List ℕ) → ((n : List ℕ) (s : Substitution) (rest : List ℕ) → HasName (short_names_as Udev) n s → text ≢ n ++ rest)
+    ensures percent { (text : Text) → ((n : Text) (s : Substitution) (rest : Text) → HasName (short_names_as Udev) n s → text ≢ n ++ rest)
         → left_of (percent ∷ text) ≡ piece.Plain (percent ∷ []) ∷ left_of text }
 {}
 

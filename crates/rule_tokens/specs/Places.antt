@@ -1,16 +1,17 @@
 -- Where the tokens of a line lie in it.
 use Rattle.std.specs.Prelude.{◌≡◌, ℕ, ◌+◌, ◌-◌, ◌<◌, ◌≤◌, List, [], ◌∷◌, ◌++◌, length, take, drop, Option, Ok, Err, All, ⊤}
+use Rattle.text_bytes.specs.Text.{Text}
 use Rattle.text_bytes.specs.Names.{double_quote}
 use Rattle.rule_tokens.specs.declared.kinds.TokenFault.{TokenFault}
 use Rattle.rule_tokens.specs.Grammar.{Placed, Item, BeginsWithToken, Lexes, answers, attribute_text}
 
 -- The part is the slice of the line that begins at the place.
-abbrev pub IsSliceAt : List ℕ → ℕ → List ℕ → Type 0
+abbrev pub IsSliceAt : Text → ℕ → Text → Type 0
 IsSliceAt line place part = take (length part) (drop place line) ≡ part
 
 -- The token is a slice of the line: its bytes from start to end are this token and nothing more, it begins with its
 -- key and its attribute, and ends with its value between quotes.
-pub record IsSlice (line : List ℕ) (t : Placed) : Type 0 where
+pub record IsSlice (line : Text) (t : Placed) : Type 0 where
   pub some : t.span.start < t.span.end
   pub within : t.span.end ≤ length line
   pub whole : BeginsWithToken (take (t.span.end - t.span.start) (drop t.span.start line)) t.parts []
@@ -21,7 +22,7 @@ pub record IsSlice (line : List ℕ) (t : Placed) : Type 0 where
   pub closes : opens + length (double_quote ∷ t.parts.value ++ double_quote ∷ []) ≡ t.span.end
 
 -- A token is a slice of the line, and a fault's place is in the line or at its end.
-abbrev pub LiesIn : List ℕ → Item → Type 0
+abbrev pub LiesIn : Text → Item → Type 0
 LiesIn line (Ok t) = IsSlice line t
 LiesIn line (Err fault) = fault.at ≤ length line
 
@@ -34,8 +35,8 @@ RisesFrom place (Err fault ∷ items) = (place ≤ fault.at) × (items ≡ [])
 
 -- The tokens of a line and its fault lie in it.
 abbrev pub AllLie : Type 0
-AllLie = (line : List ℕ) (tokens : List Placed) (end : Option TokenFault) → Lexes line tokens end → All (LiesIn line) (answers tokens end)
+AllLie = (line : Text) (tokens : List Placed) (end : Option TokenFault) → Lexes line tokens end → All (LiesIn line) (answers tokens end)
 
 -- They rise.
 abbrev pub AllRise : Type 0
-AllRise = (line : List ℕ) (tokens : List Placed) (end : Option TokenFault) → Lexes line tokens end → RisesFrom 0 (answers tokens end)
+AllRise = (line : Text) (tokens : List Placed) (end : Option TokenFault) → Lexes line tokens end → RisesFrom 0 (answers tokens end)

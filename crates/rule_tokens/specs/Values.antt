@@ -3,6 +3,7 @@ use Rattle.std.specs.Prelude.{◌≡◌, ℕ, Bool, true, false, ◌&&◌, ◌||
 use Rattle.std.specs.List.{flat_map, list_all}
 use Rattle.std.specs.Char.{encode_utf8, digit_value}
 use Rattle.std.specs.Str.Parse.{digits_value}
+use Rattle.text_bytes.specs.Text.{Text}
 use Rattle.text_bytes.specs.Names.{nul, tab, newline, vertical_tab, form_feed, carriage_return, space, double_quote, single_quote, backslash}
 pub use Rattle.text_bytes.specs.Texts.{ends_in}
 use Rattle.rule_tokens.specs.Letters.{bell, backspace, capital_u, letter_a, letter_b, letter_f, letter_n}
@@ -14,10 +15,10 @@ use Rattle.rule_tokens.specs.declared.kinds.Quote.TheVariants.{Plain, Escaped, B
 -- octal digits, two hexadecimal ones after x, four after u, eight after U.
 pub data Piece : Type 0 where
   byte letter : ℕ → Piece
-  octal hex short long : List ℕ → Piece
+  octal hex short long : Text → Piece
 
 -- How a piece is spelled.
-abbrev pub spelling : Piece → List ℕ
+abbrev pub spelling : Piece → Text
 spelling (byte b) = b ∷ []
 spelling (letter c) = backslash ∷ c ∷ []
 spelling (octal digits) = backslash ∷ digits
@@ -42,7 +43,7 @@ letter_means c =
     else 0))))))))))
 
 -- What a piece stands for: a byte, or after u and U the character of that number in UTF-8.
-abbrev pub meaning : Piece → List ℕ
+abbrev pub meaning : Piece → Text
 meaning (byte b) = b ∷ []
 meaning (letter c) = letter_means c ∷ []
 meaning (octal digits) = digits_value 8 digits ∷ []
@@ -51,7 +52,7 @@ meaning (short digits) = encode_utf8 (digits_value 16 digits)
 meaning (long digits) = encode_utf8 (digits_value 16 digits)
 
 -- These are so many digits of a base, and not all of them are 0.
-unfoldable pub is_number : ℕ → ℕ → List ℕ → Bool
+unfoldable pub is_number : ℕ → ℕ → Text → Bool
 is_number base count digits = length digits == count && (list_all (λ d. nat_lt (digit_value d) base) digits && nat_lt 0 (digits_value base digits))
 
 -- The number is a character's: not a surrogate (D800 to DFFF), and at most 10FFFF.
@@ -90,25 +91,25 @@ has_escapes Blind = false
 has_escapes BlindEscaped = true
 
 -- The text between the quotes is these pieces. A plain value has no backslash at its end, since no backslash comes directly before the quote that ends it.
-pub record Spells (escaped : Bool) (pieces : List Piece) (text : List ℕ) : Type 0 where
+pub record Spells (escaped : Bool) (pieces : List Piece) (text : Text) : Type 0 where
   pub spelled : text ≡ flat_map spelling pieces
   pub allowed : list_all (is_piece escaped) pieces ≡ true
   pub end : escaped ≡ false → ends_in backslash text ≡ false
 
 -- The text between the quotes means these bytes.
-pub record Means (escaped : Bool) (text bytes : List ℕ) : Type 0 where
+pub record Means (escaped : Bool) (text bytes : Text) : Type 0 where
   pub pieces : List Piece
   pub spells : Spells escaped pieces text
   pub bytes_are : bytes ≡ flat_map meaning pieces
 
 -- A text between quotes has one meaning at most.
 abbrev pub OneMeaning : Type 0
-OneMeaning = (escaped : Bool) (text some other : List ℕ) → Means escaped text some → Means escaped text other → some ≡ other
+OneMeaning = (escaped : Bool) (text some other : Text) → Means escaped text some → Means escaped text other → some ≡ other
 
 -- None of the bytes is NUL.
-abbrev pub HasNoNul : List ℕ → Type 0
+abbrev pub HasNoNul : Text → Type 0
 HasNoNul bytes = list_all (λ b. not (b == nul)) bytes ≡ true
 
 -- A text between quotes has no NUL, and neither do the bytes that it means.
 abbrev pub NoNul : Type 0
-NoNul = (escaped : Bool) (text bytes : List ℕ) → Means escaped text bytes → HasNoNul text × HasNoNul bytes
+NoNul = (escaped : Bool) (text bytes : Text) → Means escaped text bytes → HasNoNul text × HasNoNul bytes

@@ -1,7 +1,8 @@
 //! What the value of a token means once its escapes are read.
 
-ghost use Rattle.std.specs.Prelude.{◌≡◌, IfOk, OnOk, ◌++◌, List, ℕ};
+ghost use Rattle.std.specs.Prelude.{◌≡◌, IfOk, OnOk, ◌++◌};
 ghost use Rattle.std.specs.List.{flat_map};
+ghost use Rattle.text_bytes.specs.Text.{Text};
 ghost use Rattle.rule_tokens.specs.Values.{Means, has_escapes, meaning};
 ghost use Rattle.rule_tokens.specs.Reading.{pieces_of, meant, unquoted};
 
@@ -47,7 +48,7 @@ pub fn unquote(alloc: Global, token: &Token<'_>) -> Result<Vec<u8>, AllocError>
     // The value means these bytes.
     ensures means { IfOk result (λ v. Means (has_escapes token.now.parts.quote) token.now.parts.value v.items) }
     // It means no others.
-    ensures only { (bytes : List ℕ) → Means (has_escapes token.now.parts.quote) token.now.parts.value bytes
+    ensures only { (bytes : Text) → Means (has_escapes token.now.parts.quote) token.now.parts.value bytes
         → IfOk result (λ v. v.items ≡ bytes) }
     // The same as a function of the value, for definitions above.
     ensures value { IfOk result (λ v. v.items ≡ unquoted token.now.parts.quote token.now.parts.value) }

@@ -1,7 +1,8 @@
 -- The names of keys, and those of the types of IMPORT and RUN.
-use Rattle.std.specs.Prelude.{ℕ, List, [], ◌∷◌, Option, nat_eq, codes}
+use Rattle.std.specs.Prelude.{List, [], ◌∷◌, Option, nat_eq, codes}
 use Rattle.std.specs.List.{find}
 use Rattle.std.specs.Cmp.Lexicographic.{pointwise}
+use Rattle.text_bytes.specs.Text.{Text}
 use Rattle.rule_types.specs.declared.keys.Key.{Key}
 use Rattle.rule_types.specs.declared.keys.Key.TheVariants as key
 use Rattle.rule_types.specs.declared.types.ImportType.{ImportType}
@@ -10,7 +11,7 @@ use Rattle.rule_types.specs.declared.types.RunType.{RunType}
 use Rattle.rule_types.specs.declared.types.RunType.TheVariants as run_of
 
 -- the name of a key
-abbrev pub key_name : Key → List ℕ
+abbrev pub key_name : Key → Text
 key_name key.Action = codes "ACTION"
 key_name key.Devpath = codes "DEVPATH"
 key_name key.Kernel = codes "KERNEL"
@@ -50,11 +51,11 @@ keys =
     ∷ key.Options ∷ key.Label ∷ key.Goto ∷ []
 
 -- the key with a name, if there is one
-unfoldable pub key_of : List ℕ → Option Key
+unfoldable pub key_of : Text → Option Key
 key_of text = find (λ k. pointwise nat_eq (key_name k) text) keys
 
 -- the name of a type of IMPORT
-abbrev pub import_name : ImportType → List ℕ
+abbrev pub import_name : ImportType → Text
 import_name import_of.Program = codes "program"
 import_name import_of.Builtin = codes "builtin"
 import_name import_of.File = codes "file"
@@ -67,14 +68,14 @@ abbrev pub import_types : List ImportType
 import_types = import_of.Program ∷ import_of.Builtin ∷ import_of.File ∷ import_of.Parent ∷ import_of.Cmdline ∷ import_of.Db ∷ []
 
 -- the type of IMPORT with a name, if there is one
-unfoldable pub import_type_of : List ℕ → Option ImportType
+unfoldable pub import_type_of : Text → Option ImportType
 import_type_of text = find (λ t. pointwise nat_eq (import_name t) text) import_types
 
 -- the name of a type of RUN
-abbrev pub run_name : RunType → List ℕ
+abbrev pub run_name : RunType → Text
 run_name run_of.Program = codes "program"
 run_name run_of.Builtin = codes "builtin"
 
 -- the type of RUN with a name, if there is one
-unfoldable pub run_type_of : List ℕ → Option RunType
+unfoldable pub run_type_of : Text → Option RunType
 run_type_of text = find (λ t. pointwise nat_eq (run_name t) text) (run_of.Program ∷ run_of.Builtin ∷ [])

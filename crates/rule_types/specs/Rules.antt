@@ -1,5 +1,6 @@
 -- A rule, and how many tokens are left in it.
 use Rattle.std.specs.Prelude.{ℕ, ◌+◌, if◌then◌else◌, is_some, List, length, sum_by, Option}
+use Rattle.text_bytes.specs.Text.{Text}
 use Rattle.rule_types.specs.declared.part.Act.{Act}
 use Rattle.rule_types.specs.declared.part.Assignment.{Assignment}
 use Rattle.rule_types.specs.declared.part.Comparison.{Comparison}
@@ -8,10 +9,10 @@ use Rattle.rule_types.specs.declared.part.UpMatch.{UpMatch}
 
 -- a rule: its file and line, its names for jumps, and its parts in the order of evaluation
 pub record Rule : Type 0 where
-  pub file : List ℕ
+  pub file : Text
   pub line : ℕ
-  pub label : Option (List ℕ)
-  pub goto : Option (List ℕ)
+  pub label : Option Text
+  pub goto : Option Text
   pub plain : List PlainMatch
   pub up : List UpMatch
   pub acts : List Act
@@ -19,7 +20,7 @@ pub record Rule : Type 0 where
   pub sets : List Assignment
 
 -- 1 for a name, 0 for none
-abbrev pub name_count : Option (List ℕ) → ℕ
+abbrev pub name_count : Option Text → ℕ
 name_count name = if is_some name then 1 else 0
 
 -- how many tokens are left in a rule

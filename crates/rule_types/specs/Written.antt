@@ -1,6 +1,7 @@
 -- The key and the attribute with which each role of a token is written: tables from the roles back, against which
 -- those to the roles are proved.
-use Rattle.std.specs.Prelude.{ℕ, List, Option, Some, None, option_map}
+use Rattle.std.specs.Prelude.{Option, Some, None, option_map}
+use Rattle.text_bytes.specs.Text.{Text}
 use Rattle.rule_types.specs.Names.{import_name, run_name}
 use Rattle.rule_types.specs.declared.keys.Key.{Key}
 use Rattle.rule_types.specs.declared.keys.Key.TheVariants as key
@@ -31,7 +32,7 @@ key_of_plain (plain.Env name) = key.Env
 key_of_plain (plain.Const name) = key.Const
 
 -- its attribute
-abbrev pub attribute_of_plain : PlainKey → Option (List ℕ)
+abbrev pub attribute_of_plain : PlainKey → Option Text
 attribute_of_plain (plain.Attr name) = Some name
 attribute_of_plain (plain.Sysctl name) = Some name
 attribute_of_plain (plain.Env name) = Some name
@@ -47,7 +48,7 @@ key_of_up up.Tags = key.Tags
 key_of_up (up.Attrs name) = key.Attrs
 
 -- its attribute
-abbrev pub attribute_of_up : UpKey → Option (List ℕ)
+abbrev pub attribute_of_up : UpKey → Option Text
 attribute_of_up (up.Attrs name) = Some name
 attribute_of_up _ = None
 
@@ -65,7 +66,7 @@ key_of_target (target.Attr name) = key.Attr
 key_of_target (target.Sysctl name) = key.Sysctl
 
 -- its attribute
-abbrev pub attribute_of_target : Target → Option (List ℕ)
+abbrev pub attribute_of_target : Target → Option Text
 attribute_of_target (target.Seclabel name) = Some name
 attribute_of_target (target.Env name) = Some name
 attribute_of_target (target.Attr name) = Some name
@@ -105,7 +106,7 @@ key_of_topic topic.Label = key.Label
 key_of_topic topic.Goto = key.Goto
 
 -- its attribute
-abbrev pub attribute_of_topic : Topic → Option (List ℕ)
+abbrev pub attribute_of_topic : Topic → Option Text
 attribute_of_topic (topic.Attrs name) = Some name
 attribute_of_topic (topic.Const name) = Some name
 attribute_of_topic (topic.Attr name) = Some name
@@ -132,7 +133,7 @@ key_of_role role.Label = key.Label
 key_of_role role.Goto = key.Goto
 
 -- the attribute of a role
-abbrev pub attribute_of_role : Role → Option (List ℕ)
+abbrev pub attribute_of_role : Role → Option Text
 attribute_of_role (role.Plain k o) = attribute_of_plain k
 attribute_of_role (role.Up k o) = attribute_of_up k
 attribute_of_role (role.Test mask o) = mask

@@ -1,5 +1,6 @@
 -- The key and the attribute with which each part is written.
-use Rattle.std.specs.Prelude.{ℕ, List, Option, Some, None, option_map}
+use Rattle.std.specs.Prelude.{Option, Some, None, option_map}
+use Rattle.text_bytes.specs.Text.{Text}
 use Rattle.rule_types.specs.Names.{import_name, run_name}
 use Rattle.rule_types.specs.Written.{attribute_of_plain, attribute_of_target, attribute_of_up, key_of_plain, key_of_target, key_of_up}
 use Rattle.rule_types.specs.declared.keys.Key.{Key}
@@ -31,7 +32,7 @@ key_of_act_kind (act_kind.Program t) = key.Program
 key_of_act_kind (act_kind.Import i) = key.Import
 
 -- its attribute
-abbrev pub attribute_of_act_kind : ActKind → Option (List ℕ)
+abbrev pub attribute_of_act_kind : ActKind → Option Text
 attribute_of_act_kind (act_kind.Test mask t) = mask
 attribute_of_act_kind (act_kind.Program t) = None
 attribute_of_act_kind (act_kind.Import i) = Some (import_name (type_of i))
@@ -43,7 +44,7 @@ key_of_change (change.Text t text) = key_of_target t
 key_of_change (change.Run type text) = key.Run
 
 -- its attribute
-abbrev pub attribute_of_change : Change → Option (List ℕ)
+abbrev pub attribute_of_change : Change → Option Text
 attribute_of_change (change.Option known) = None
 attribute_of_change (change.Text t text) = attribute_of_target t
 attribute_of_change (change.Run type text) = option_map run_name type
@@ -59,7 +60,7 @@ key_of_part (part.Label name) = key.Label
 key_of_part (part.Goto name) = key.Goto
 
 -- the attribute of a part, if it has one
-abbrev pub attribute_of_part : Part → Option (List ℕ)
+abbrev pub attribute_of_part : Part → Option Text
 attribute_of_part (part.Plain m) = attribute_of_plain m.key
 attribute_of_part (part.Up m) = attribute_of_up m.key
 attribute_of_part (part.Act a) = attribute_of_act_kind a.kind

@@ -7,7 +7,8 @@ use Rattle.text_core.specs.Fits.{fits, some_suffix}
 use Rattle.text_core.specs.Items.{takes}
 use Rattle.text_core.specs.declared.item.Item.{Item}
 use Rattle.text_core.specs.declared.item.Item.TheVariants.{Byte, One, Many, Among}
-use Rattle.text_tables.specs.Texts.{Text, is_among, same_text}
+use Rattle.text_bytes.specs.Text.{Text}
+use Rattle.text_tables.specs.Texts.{is_among, same_text}
 use Rattle.rule_lints.specs.LetterCase.{begin_with, is_byte_in, is_many}
 use Rattle.rule_value_lints.specs.Tables.{actions, architectures, removable_values, subsystems}
 use Rattle.rule_value_lints.specs.Kernel.{are_digits, is_other_case, writes}

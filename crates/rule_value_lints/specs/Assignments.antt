@@ -3,7 +3,8 @@
 use Rattle.std.specs.Prelude.{Bool, true, false, not, ◌&&◌, ◌||◌, List, [], ◌∷◌, codes}
 use Rattle.std.specs.List.{list_any}
 use Rattle.text_bytes.specs.Texts.{is_empty}
-use Rattle.text_tables.specs.Texts.{Text, is_among, same_text}
+use Rattle.text_bytes.specs.Text.{Text}
+use Rattle.text_tables.specs.Texts.{is_among, same_text}
 use Rattle.rule_types.specs.Tokens.{WrittenPart}
 use Rattle.rule_tokens.specs.Grammar.{Placed, compares}
 use Rattle.rule_tokens.specs.declared.kinds.Operator.{Operator}

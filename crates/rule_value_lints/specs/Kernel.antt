@@ -2,7 +2,8 @@
 use Rattle.std.specs.Prelude.{ℕ, Bool, not, ◌&&◌, ◌||◌, nat_eq, if◌then◌else◌, List, length, Option, Some, None, codes}
 use Rattle.std.specs.Char.{eq_ignore_ascii_case, is_ascii_hexdigit}
 use Rattle.std.specs.List.{list_all, list_any, starts_with, zip}
-use Rattle.text_tables.specs.Texts.{Text, is_among, same_text}
+use Rattle.text_bytes.specs.Text.{Text}
+use Rattle.text_tables.specs.Texts.{is_among, same_text}
 use Rattle.rule_types.specs.declared.part.Part.{Part}
 use Rattle.rule_types.specs.declared.part.Part.TheVariants as part
 use Rattle.rule_types.specs.declared.roles.PlainKey.{PlainKey}

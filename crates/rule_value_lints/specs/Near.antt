@@ -3,7 +3,8 @@ use Rattle.std.specs.Prelude.{ℕ, Bool, false, not, ◌&&◌, ◌||◌, ◌==�
 use Rattle.std.specs.List.{prefix_len, starts_with, zip}
 use Rattle.std.specs.Option.{option_and_then}
 use Rattle.text_bytes.specs.Texts.{begins_with, is_empty}
-use Rattle.text_tables.specs.Texts.{Text, is_among, same_text}
+use Rattle.text_bytes.specs.Text.{Text}
+use Rattle.text_tables.specs.Texts.{is_among, same_text}
 use Rattle.rule_tokens.specs.Grammar.{Placed}
 use Rattle.rule_value_lints.specs.Kernel.{is_other_case}
 use Rattle.rule_value_lints.specs.Tables.{attribute_names, property_names, usb_names}

@@ -7,7 +7,7 @@ use Rattle.text_bytes.specs.Texts.{is_empty}
 use Rattle.text_core.specs.Fits.{fits}
 use Rattle.text_core.specs.declared.item.Item.{Item}
 use Rattle.text_core.specs.declared.item.Item.TheVariants.{Byte}
-use Rattle.text_tables.specs.Texts.{Text}
+use Rattle.text_bytes.specs.Text.{Text}
 use Rattle.rule_types.specs.declared.part.Comparison.{Comparison}
 use Rattle.rule_types.specs.declared.part.Part.{Part}
 use Rattle.rule_lints.specs.LetterCase.{begin_with, is_many}

@@ -1,7 +1,7 @@
 -- Names and values that the kernel and udev give or read, as far as the lints know them: of Linux 6.12 and systemd 257, as of
 -- 28 November 2026. A name that is in no table is no fault.
 use Rattle.std.specs.Prelude.{List, [], ◌∷◌, ◌++◌, codes}
-use Rattle.text_tables.specs.Texts.{Text}
+use Rattle.text_bytes.specs.Text.{Text}
 
 -- what ACTION may be: lib/kobject_uevent.c, `kobject_actions`
 abbrev pub actions : List Text

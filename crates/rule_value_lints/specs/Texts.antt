@@ -2,7 +2,8 @@
 use Rattle.std.specs.Prelude.{Bool, false, ◌&&◌, ◌||◌, nat_eq, List, [], ◌∷◌, Option, Some, None}
 use Rattle.std.specs.List.{list_any, starts_with}
 use Rattle.rule_tokens.specs.Grammar.{Placed}
-use Rattle.text_tables.specs.Texts.{Text, is_among, same_text}
+use Rattle.text_bytes.specs.Text.{Text}
+use Rattle.text_tables.specs.Texts.{is_among, same_text}
 
 -- whether a text begins with one of these
 abbrev pub begins_with_one : List Text → Text → Bool

@@ -2,7 +2,7 @@
 use Rattle.std.specs.Prelude.{Bool, not, ◌&&◌, List, [], ◌∷◌, flat_map, Option, None}
 use Rattle.std.specs.Bool.{then_some}
 use Rattle.std.specs.List.{list_any}
-use Rattle.text_tables.specs.Texts.{Text}
+use Rattle.text_bytes.specs.Text.{Text}
 use Rattle.rule_types.specs.Tokens.{WrittenPart}
 use Rattle.rule_types.specs.declared.spot.Spot.{Spot}
 use Rattle.rule_lints.specs.RuleLints.{spots_with}

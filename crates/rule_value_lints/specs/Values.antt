@@ -2,7 +2,8 @@
 use Rattle.std.specs.Prelude.{Bool, not, ◌&&◌, ◌||◌, nat_lt, if◌then◌else◌, [], ◌∷◌, length, codes, is_some}
 use Rattle.text_bytes.specs.Names.{dollar, percent, space}
 use Rattle.text_bytes.specs.Texts.{begins_with, ends_in, is_empty}
-use Rattle.text_tables.specs.Texts.{Text, same_text}
+use Rattle.text_bytes.specs.Text.{Text}
+use Rattle.text_tables.specs.Texts.{same_text}
 use Rattle.rule_tokens.specs.Grammar.{Placed, compares}
 use Rattle.rule_types.specs.declared.part.Part.{Part}
 use Rattle.rule_lints.specs.Parts.{comparison_of}

@@ -1,5 +1,6 @@
 //! Laws of the lints of values, each the contract of a function with an empty body.
-ghost use Rattle.std.specs.Prelude.{◌≡◌, List, ℕ, Bool, true, false, codes, Some, None};
+ghost use Rattle.std.specs.Prelude.{◌≡◌, List, Bool, true, false, codes, Some, None};
+ghost use Rattle.text_bytes.specs.Text.{Text};
 ghost use Rattle.text_core.specs.Fits.{fits};
 ghost use Rattle.text_core.specs.declared.item.Item.{Item};
 ghost use Rattle.rule_tokens.specs.declared.kinds.Operator.TheVariants as op;
@@ -16,7 +17,7 @@ ghost use Rattle.rule_value_lints.specs.declared.subjects.Subject.TheVariants.{A
 /// A pattern that is reported fits no text that the kernel writes there.
 #[tactic(auto, using(crate::proofs::NeverLaw::never_written))]
 pub fn nothing_that_the_kernel_writes_fits()
-    ensures { (subject : Subject) (items : List Item) (text : List ℕ) → never_fits subject items ≡ true → fits items text ≡ true → writes subject text ≡ false }
+    ensures { (subject : Subject) (items : List Item) (text : Text) → never_fits subject items ≡ true → fits items text ≡ true → writes subject text ≡ false }
 {}
 
 /// Values that are compared with what the kernel writes, of which some are reported.

@@ -1,6 +1,7 @@
 -- How bytes of a file are written in an output, so that none of them can be taken for a part of it.
-use Rattle.std.specs.Prelude.{ℕ, ◌+◌, ◌*◌, Bool, ◌==◌, ◌||◌, ◌/◌, ◌%◌, nat_lt, List, ◌∷◌, [], ◌++◌, codes, slice_index, flat_map, if◌then◌else◌}
+use Rattle.std.specs.Prelude.{ℕ, ◌+◌, ◌*◌, Bool, ◌==◌, ◌||◌, ◌/◌, ◌%◌, nat_lt, ◌∷◌, [], ◌++◌, codes, slice_index, flat_map, if◌then◌else◌}
 use Rattle.std.specs.List.{position_or_len}
+use Rattle.text_bytes.specs.Text.{Text}
 use Rattle.text_bytes.specs.Names.{space, delete, backslash}
 
 -- a control byte of ASCII
@@ -12,7 +13,7 @@ abbrev pub is_escaped : ℕ → Bool
 is_escaped b = is_control b || b == backslash
 
 -- the upper case hexadecimal digits, in the order of their numbers
-abbrev pub hex_digits : List ℕ
+abbrev pub hex_digits : Text
 hex_digits = codes "0123456789ABCDEF"
 
 -- the digit of a number below 16
@@ -20,11 +21,11 @@ abbrev pub hex_digit : ℕ → ℕ
 hex_digit n = slice_index hex_digits n
 
 -- a byte as it is written: by `\x` and two hexadecimal digits, or as it is
-abbrev pub escape_byte : ℕ → List ℕ
+abbrev pub escape_byte : ℕ → Text
 escape_byte b = if is_escaped b then codes "\\x" ++ hex_digit (b / 16) ∷ hex_digit (b % 16) ∷ [] else b ∷ []
 
 -- a text as it is written, byte by byte
-abbrev pub escape_text : List ℕ → List ℕ
+abbrev pub escape_text : Text → Text
 escape_text text = flat_map escape_byte text
 
 -- the number below 16 that a digit writes
@@ -33,7 +34,7 @@ digit_value digit = position_or_len (λ d. d == digit) hex_digits
 
 -- The text that is written so: a backslash, the byte after it and two digits are the byte of their number, and any other byte
 -- is itself.
-abbrev pub unescaped : List ℕ → List ℕ
+abbrev pub unescaped : Text → Text
 unescaped [] = []
 unescaped (b ∷ []) = b ∷ []
 unescaped (b ∷ c ∷ []) = b ∷ c ∷ []

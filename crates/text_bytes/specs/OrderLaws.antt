@@ -1,12 +1,13 @@
 -- What is true of the order of files, however it is made.
-use Rattle.std.specs.Prelude.{◌≡◌, ◌<◌, ◌≤◌, ℕ, List, ◌∷◌, ◌++◌, All, map}
+use Rattle.std.specs.Prelude.{◌≡◌, ◌<◌, ◌≤◌, List, ◌∷◌, ◌++◌, All, map}
 use Rattle.std.specs.List.Sorted.{IsStrictlySortedBy}
 use Rattle.std.specs.Ordering.{nat_cmp}
 use Rattle.std.specs.Cmp.Lexicographic.{slice_cmp}
+use Rattle.text_bytes.specs.Text.{Text}
 use Rattle.text_bytes.specs.declared.source_file.SourceFile.{SourceFile}
 
 -- the names of files
-abbrev pub file_names : List SourceFile → List (List ℕ)
+abbrev pub file_names : List SourceFile → List Text
 file_names files = map (λ file. file.name) files
 
 -- each name is below those after it, byte by byte

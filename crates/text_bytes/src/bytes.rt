@@ -14,9 +14,9 @@ pub struct Bytes {
 }
 
 impl Model for Bytes {
-    ghost use Rattle.std.specs.Prelude.{List, ℕ};
+    ghost use Rattle.text_bytes.specs.Text.{Text};
 
-    ghost Value = { List ℕ };
+    ghost Value = { Text };
 
     ghost view = { λ b. b.held.items };
 }

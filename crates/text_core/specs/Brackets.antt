@@ -1,5 +1,6 @@
 -- What is between brackets, in both ways of writing, and what a set made of it takes.
 use Rattle.std.specs.Prelude.{ℕ, zero, suc, Bool, false, not, ◌&&◌, if◌then◌else◌, List, ◌∷◌, [], length, Option, Some, None}
+use Rattle.text_bytes.specs.Text.{Text}
 use Rattle.text_core.specs.Elements.{element_of, takes_among}
 use Rattle.text_core.specs.Sets.{set_takes}
 use Rattle.text_core.specs.Spell.{closes}
@@ -36,7 +37,7 @@ with_found (Some found) rest = with_element found.element (rest found.following)
 
 -- The elements of a text after a `[` and its sign, after so many bytes to be skipped: up to the first `]` that begins
 -- one other than the first. If no such `]` closes them there are none.
-abbrev pub elements_at : Reading → Bool → List ℕ → ℕ → Option Closed
+abbrev pub elements_at : Reading → Bool → Text → ℕ → Option Closed
 elements_at reading first [] passed = None
 elements_at reading first (b ∷ t) zero =
     if closes b && not first then Some (record { elements = []; left = length t })

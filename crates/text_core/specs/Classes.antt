@@ -4,13 +4,14 @@ use Rattle.std.specs.Char.{is_ascii_alphabetic, is_ascii_alphanumeric, is_ascii_
 use Rattle.std.specs.Char.{is_ascii_hexdigit, is_ascii_lowercase, is_ascii_punctuation, is_ascii_uppercase}
 use Rattle.std.specs.Cmp.Lexicographic.{pointwise}
 use Rattle.std.specs.List.{find}
+use Rattle.text_bytes.specs.Text.{Text}
 use Rattle.text_bytes.specs.Names.{is_blank, is_whitespace, space}
 use Rattle.text_core.specs.declared.byte_class.ByteClass.{ByteClass}
 use Rattle.text_core.specs.declared.byte_class.ByteClass.TheVariants.{Alphanumeric, Alphabetic, Blank, Control, Digit, Graphic, Lowercase}
 use Rattle.text_core.specs.declared.byte_class.ByteClass.TheVariants.{Printed, Punctuation, Whitespace, Uppercase, Hexdigit}
 
 -- The name of a class.
-abbrev pub class_name : ByteClass → List ℕ
+abbrev pub class_name : ByteClass → Text
 class_name Alphanumeric = codes "alnum"
 class_name Alphabetic = codes "alpha"
 class_name Blank = codes "blank"
@@ -30,7 +31,7 @@ classes =
     Alphanumeric ∷ Alphabetic ∷ Blank ∷ Control ∷ Digit ∷ Graphic ∷ Lowercase ∷ Printed ∷ Punctuation ∷ Whitespace ∷ Uppercase ∷ Hexdigit ∷ []
 
 -- The class with a name, if there is one.
-unfoldable pub class_of : List ℕ → Option ByteClass
+unfoldable pub class_of : Text → Option ByteClass
 class_of name = find (λ class. pointwise nat_eq (class_name class) name) classes
 
 -- Whether a class has a byte. What is printed is the space and the graphic bytes.

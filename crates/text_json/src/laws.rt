@@ -1,6 +1,7 @@
 //! Laws of what is told. Each is the contract of a function with an empty body.
-ghost use Rattle.std.specs.Prelude.{◌≡◌, ℕ, ◌<◌, List, [], ◌∷◌, ◌++◌, All};
+ghost use Rattle.std.specs.Prelude.{◌≡◌, ◌<◌, List, [], ◌∷◌, ◌++◌, All};
 ghost use Rattle.std.specs.Str.{IsUtf8};
+ghost use Rattle.text_bytes.specs.Text.{Text};
 ghost use Rattle.json.specs.Json.{Json};
 ghost use Rattle.json.specs.Token as token;
 ghost use Rattle.json.specs.Tree.{json_tokens};
@@ -10,13 +11,13 @@ ghost use Rattle.text_json.specs.Values.{array_of, object_of};
 
 /// Any bytes are told as UTF-8, and are read back as they were: so no two texts are told as the same string.
 pub fn told_texts_are_read_back()
-    ensures utf8 { (text : List ℕ) → All (λ b. b < 256) text → IsUtf8 (told_text text) }
-    ensures read { (text : List ℕ) → All (λ b. b < 256) text → told_read (told_text text) ≡ text }
+    ensures utf8 { (text : Text) → All (λ b. b < 256) text → IsUtf8 (told_text text) }
+    ensures read { (text : Text) → All (λ b. b < 256) text → told_read (told_text text) ≡ text }
 {}
 
 /// An object is written as its members in their order.
 pub fn an_object_is_its_members()
-    ensures { (members : List (List ℕ × Json)) → json_tokens (object_of members)
+    ensures { (members : List (Text × Json)) → json_tokens (object_of members)
         ≡ token.begin_object ∷ (member_tokens members ++ token.end_object ∷ []) }
 {}
 

@@ -6,6 +6,7 @@
 ghost use Rattle.std.specs.Prelude.{◌≡◌, ◌≢◌, ◌↔◌, ℕ, ◌<◌, Bool, true, false, List, [], ◌∷◌, ◌++◌, IsTrue, Ok};
 ghost use Rattle.std.specs.Char.{eq_ignore_ascii_case};
 ghost use Rattle.std.specs.List.{list_any};
+ghost use Rattle.text_bytes.specs.Text.{Text};
 ghost use Rattle.text_laws.specs.ChoiceGrammar.{ReadsParts};
 ghost use Rattle.text_core.specs.Choices.{choice, choice_blind};
 ghost use Rattle.text_core.specs.Fits.{fits, SameButCase, Splits};
@@ -33,21 +34,21 @@ pub fn choices_are_read_part_by_part()
 /// The texts that fit: of no item the empty one, of an item that takes a byte those of such a byte, of `Many` all,
 /// and of items after items those that can be cut so that each part fits its own.
 pub fn texts_fit_item_by_item()
-    ensures none { (t : List ℕ) → IsTrue (fits [] t) ↔ (t ≡ []) }
-    ensures one { (x : Item) (t : List ℕ) → x ≢ Many → IsTrue (fits (x ∷ []) t) ↔ ((b : ℕ) × (t ≡ b ∷ []) × IsTrue (takes x b)) }
-    ensures many { (t : List ℕ) → IsTrue (fits (Many ∷ []) t) }
-    ensures joined { (p q : List Item) (t : List ℕ) → IsTrue (fits (p ++ q) t) ↔ Splits (fits p) (fits q) t }
+    ensures none { (t : Text) → IsTrue (fits [] t) ↔ (t ≡ []) }
+    ensures one { (x : Item) (t : Text) → x ≢ Many → IsTrue (fits (x ∷ []) t) ↔ ((b : ℕ) × (t ≡ b ∷ []) × IsTrue (takes x b)) }
+    ensures many { (t : Text) → IsTrue (fits (Many ∷ []) t) }
+    ensures joined { (p q : List Item) (t : Text) → IsTrue (fits (p ++ q) t) ↔ Splits (fits p) (fits q) t }
 {}
 
 /// `Many` before items fits if and only if the items fit what follows some cut of the text.
 pub fn many_fits_where_some_split_does()
-    ensures { (p : List Item) (t : List ℕ) → IsTrue (fits (Many ∷ p) t) ↔ Splits (λ _. true) (fits p) t }
+    ensures { (p : List Item) (t : Text) → IsTrue (fits (Many ∷ p) t) ↔ Splits (λ _. true) (fits p) t }
 {}
 
 /// Members are ranges and single bytes, and have the bytes that one of these has.
 pub fn members_are_ranges_and_bytes()
-    ensures written { (m : List ℕ) → (members : List Member) × AreMembers members m }
-    ensures had { (members : List Member) (m : List ℕ) (b : ℕ) → AreMembers members m → members_have m b ≡ list_any (λ member. member_has member b) members }
+    ensures written { (m : Text) → (members : List Member) × AreMembers members m }
+    ensures had { (members : List Member) (m : Text) (b : ℕ) → AreMembers members m → members_have m b ≡ list_any (λ member. member_has member b) members }
 {}
 
 /// A set has just the bytes that pass its test.
@@ -58,8 +59,8 @@ pub fn set_has_what_passes()
 /// A set that is read blind has the bytes that are a member except for their case; a negated one has the others, so
 /// that it has neither case of a member.
 pub fn blind_set_is_joined_before_it_is_negated()
-    ensures joined { (members : List ℕ) (b : ℕ) → b < 256 → IsTrue (set_has (set_of (set_takes Blind false members)) b) ↔ HasInSomeCase members b }
-    ensures negated { (members : List ℕ) (b : ℕ) → b < 256 → IsTrue (set_has (set_of (set_takes Blind true members)) b) ↔ (HasInSomeCase members b → ⊥) }
+    ensures joined { (members : Text) (b : ℕ) → b < 256 → IsTrue (set_has (set_of (set_takes Blind false members)) b) ↔ HasInSomeCase members b }
+    ensures negated { (members : Text) (b : ℕ) → b < 256 → IsTrue (set_has (set_of (set_takes Blind true members)) b) ↔ (HasInSomeCase members b → ⊥) }
 {}
 
 /// A byte that means itself takes, read blind, the bytes that are equal to it except for their case.
@@ -69,5 +70,5 @@ pub fn blind_byte_takes_both_cases()
 
 /// What is read blind fits, of two texts that are equal except for the case of ASCII letters, both or neither.
 pub fn blind_patterns_ignore_case()
-    ensures { (t u v : List ℕ) (items : List Item) → spell_blind t ≡ Ok items → SameButCase u v → fits items u ≡ fits items v }
+    ensures { (t u v : Text) (items : List Item) → spell_blind t ≡ Ok items → SameButCase u v → fits items u ≡ fits items v }
 {}

@@ -1,5 +1,6 @@
 //! Laws of patterns as udev reads them, by fnmatch(3).
-ghost use Rattle.std.specs.Prelude.{◌≡◌, ◌↔◌, ◌<◌, ℕ, false, List, [], ◌∷◌, ◌++◌, IsTrue, codes};
+ghost use Rattle.std.specs.Prelude.{◌≡◌, ◌↔◌, ◌<◌, ℕ, false, [], ◌∷◌, ◌++◌, IsTrue, codes};
+ghost use Rattle.text_bytes.specs.Text.{Text};
 ghost use Rattle.text_bytes.specs.Names.{backslash};
 ghost use Rattle.text_core.specs.Classes.{class_has, class_name};
 ghost use Rattle.text_core.specs.Fits.{fits};
@@ -11,12 +12,12 @@ ghost use Rattle.text_core.specs.declared.reading.Reading.TheVariants.{Exact};
 
 /// A part of a choice without special bytes fits its own text alone.
 pub fn plain_part_fits_its_text_alone()
-    ensures { (t u : List ℕ) → IsTrue (fits (fnmatch_part Exact false t) u) ↔ (u ≡ t) }
+    ensures { (t u : Text) → IsTrue (fits (fnmatch_part Exact false t) u) ↔ (u ≡ t) }
 {}
 
 /// A byte after a backslash means itself, whichever it is.
 pub fn quoted_byte_means_itself()
-    ensures { (reading : Reading) (b : ℕ) (t : List ℕ) → fnmatch_items reading (backslash ∷ b ∷ t) 0 ≡ itself reading b ∷ fnmatch_items reading t 0 }
+    ensures { (reading : Reading) (b : ℕ) (t : Text) → fnmatch_items reading (backslash ∷ b ∷ t) 0 ≡ itself reading b ∷ fnmatch_items reading t 0 }
 {}
 
 /// A class between brackets takes just its bytes, in both readings.

@@ -1,5 +1,6 @@
 //! A text as one word.
-ghost use Rattle.std.specs.Prelude.{◌≡◌, ◌++◌, [], List, ℕ, false, length, IfOk, OnOk};
+ghost use Rattle.std.specs.Prelude.{◌≡◌, ◌++◌, [], false, length, IfOk, OnOk};
+ghost use Rattle.text_bytes.specs.Text.{Text};
 ghost use Rattle.text_links.specs.Steps.{grown, with_byte};
 ghost use Rattle.text_links.specs.Underscores.{underscored};
 
@@ -34,7 +35,7 @@ impl Word {
 
     /// Adds more of the text.
     pub fn push(&mut self, more: &[u8]) -> Result<(), AllocError>
-        ensures { OnOk result ((left : List ℕ) → grown self.new left ≡ grown self.old (more.now ++ left)) }
+        ensures { OnOk result ((left : Text) → grown self.new left ≡ grown self.old (more.now ++ left)) }
     {
         for byte in more {
             push_byte(&mut self.bytes, self.gap, *byte)?;

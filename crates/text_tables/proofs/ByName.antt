@@ -15,7 +15,8 @@ use Rattle.std.proofs.lemmas.Map.Keys.{IsDistinct-IsPermutation}
 use Rattle.std.proofs.lemmas.Map.Lookups.{exact_bytes}
 use Rattle.indexmap.proofs.MapLemmas.{lookup_permutation}
 use Rattle.text_bytes.specs.Insertion.{text_order}
-use Rattle.text_tables.specs.Texts.{Text, same_text, AreOnce}
+use Rattle.text_bytes.specs.Text.{Text}
+use Rattle.text_tables.specs.Texts.{same_text, AreOnce}
 use Rattle.text_tables.specs.Pairs.{Pair, named, names, value_of, with_value, with_values}
 use Rattle.text_tables.proofs.Found.{set_after, value_set}
 use Rattle.text_tables.proofs.Held.{found, is_text, names_once, same, seen}

@@ -8,7 +8,8 @@ use Rattle.std.proofs.lemmas.Nat.Bits.{bit_at_set_same, bit_at_set_other}
 use Rattle.std.specs.Int.{bit_at, w64}
 use Rattle.std.specs.Int.RustNames.{bit_or}
 use Rattle.std.specs.Cmp.Lexicographic.{bytes_decides}
-use Rattle.text_tables.specs.Texts.{Text, same_text}
+use Rattle.text_bytes.specs.Text.{Text}
+use Rattle.text_tables.specs.Texts.{same_text}
 use Rattle.text_tables.specs.Pairs.{Pair, names, value_of, with_value, without_name}
 use Rattle.text_tables.specs.NameFlags.{IsFlagged, is_lacking, is_unset, none_set, number_of, with_flag, with_name, with_names}
 use Rattle.text_tables.proofs.Found.{value_removed, value_set}

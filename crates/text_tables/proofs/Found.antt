@@ -1,7 +1,8 @@
 -- What is found among texts and names after one is added or removed.
 use Rattle.std.proofs.Common.{◌≡◌, Bool, true, false, List, [], ◌∷◌, ◌++◌, ◌||◌, ◌&&◌, not, Option, Some, None, is_some, cond, refl, ap, sym, ◌∙◌, true≢false}
 use Rattle.std.specs.Cmp.Lexicographic.{bytes_decides}
-use Rattle.text_tables.specs.Texts.{Text, same_text, is_among, with_text, without_text}
+use Rattle.text_bytes.specs.Text.{Text}
+use Rattle.text_tables.specs.Texts.{same_text, is_among, with_text, without_text}
 use Rattle.text_tables.specs.Pairs.{names, named, value_of, with_value, without_name}
 
 is_same : (a b : Text) → same_text a b ≡ true → a ≡ b

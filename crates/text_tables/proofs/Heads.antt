@@ -8,7 +8,7 @@ use Rattle.std.specs.Ordering.{nat_cmp, ordering_reverse, ordering_then}
 use Rattle.std.specs.declared.cmp.Ordering.TheVariants.{Less, Equal, Greater}
 use Rattle.text_bytes.specs.Insertion.{text_order}
 use Rattle.text_tables.specs.Heads.{IsHead, four_at, head_of}
-use Rattle.text_tables.specs.Texts.{Text}
+use Rattle.text_bytes.specs.Text.{Text}
 
 abbrev AreBytes : Text → Type 0
 AreBytes text = (k : ℕ) → get_or text k 0 < 256

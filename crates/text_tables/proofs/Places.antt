@@ -8,7 +8,8 @@ use Rattle.std.specs.List.{All, IsDistinct}
 use Rattle.std.specs.List.Sorted.{IsPermutation, IsSorted}
 use Rattle.std.specs.Map.{keys_of}
 use Rattle.text_bytes.specs.Insertion.{text_order}
-use Rattle.text_tables.specs.Texts.{AreOnce, Text, same_text}
+use Rattle.text_bytes.specs.Text.{Text}
+use Rattle.text_tables.specs.Texts.{AreOnce, same_text}
 use Rattle.text_tables.specs.Pairs.{Pair, names}
 use Rattle.text_tables.specs.Heads.{named_places, pair_at}
 use Rattle.text_tables.specs.Sorted.{by_name}

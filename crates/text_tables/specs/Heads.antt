@@ -1,6 +1,6 @@
 -- Serves inner proofs only: the first bytes of a text as a number, and names with their places.
 use Rattle.std.specs.Prelude.{◌≡◌, ℕ, zero, suc, ◌+◌, ◌*◌, ◌^◌, ◌<◌, List, [], ◌∷◌, get_or}
-use Rattle.text_tables.specs.Texts.{Text}
+use Rattle.text_bytes.specs.Text.{Text}
 use Rattle.text_tables.specs.Pairs.{Pair}
 
 -- so many first bytes of a text as a number whose highest byte is the first; zeros follow a text that is shorter

@@ -2,7 +2,8 @@
 -- are texts, or of any other kind.
 use Rattle.std.specs.Prelude.{◌≡◌, ℕ, Bool, not, List, [], ◌∷◌, Option, Some, None, if◌then◌else◌, filter, fold, map, take}
 use Rattle.std.specs.List.{list_any}
-use Rattle.text_tables.specs.Texts.{Text, same_text}
+use Rattle.text_bytes.specs.Text.{Text}
+use Rattle.text_tables.specs.Texts.{same_text}
 
 -- two texts, as a name and its value
 abbrev pub Pair : Type 0

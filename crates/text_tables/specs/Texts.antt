@@ -2,10 +2,7 @@
 use Rattle.std.specs.Prelude.{◌≡◌, ℕ, Bool, not, List, [], ◌∷◌, ◌++◌, if◌then◌else◌, nat_eq, filter, fold, take}
 use Rattle.std.specs.Cmp.Lexicographic.{pointwise}
 use Rattle.std.specs.List.{list_any, IsDistinct}
-
--- a text is its bytes
-abbrev pub Text : Type 0
-Text = List ℕ
+use Rattle.text_bytes.specs.Text.{Text}
 
 -- whether two texts have the same bytes
 abbrev pub same_text : Text → Text → Bool

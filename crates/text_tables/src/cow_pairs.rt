@@ -25,11 +25,12 @@ pub struct CowPairs<'a> {
 }
 
 impl<'a> Model for CowPairs<'a> {
-    ghost use Rattle.std.specs.Prelude.{List, ℕ, map};
+    ghost use Rattle.std.specs.Prelude.{List, map};
     ghost use Rattle.std.specs.Cow.{cow_slice_items};
+    ghost use Rattle.text_bytes.specs.Text.{Text};
     ghost use Rattle.text_tables.specs.NameFlags.{IsFlagged};
 
-    ghost Value = { List (List ℕ × List ℕ) };
+    ghost Value = { List (Text × Text) };
 
     ghost view = { λ p. map (λ e. (cow_slice_items e.0, cow_slice_items e.1)) p.held.entries };
 

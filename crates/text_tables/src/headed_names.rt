@@ -60,10 +60,11 @@ pub(crate) struct HeadedName<'a> {
 }
 
 impl<'a> Model for HeadedName<'a> {
-    ghost use Rattle.std.specs.Prelude.{List, ℕ};
+    ghost use Rattle.std.specs.Prelude.{ℕ};
+    ghost use Rattle.text_bytes.specs.Text.{Text};
     ghost use Rattle.text_tables.specs.Heads.{IsHead};
 
-    ghost Value = { List ℕ × ℕ };
+    ghost Value = { Text × ℕ };
 
     ghost view = { λ n. (n.name.now, n.place) };
 

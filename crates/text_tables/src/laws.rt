@@ -2,7 +2,8 @@
 //!
 //! Each function here is empty: its contract is the law.
 ghost use Rattle.std.specs.Prelude.{◌≡◌, ◌∷◌, ◌++◌, [], ◌||◌, ◌&&◌, not, true, false, if◌then◌else◌, is_some, Some, None, List};
-ghost use Rattle.text_tables.specs.Texts.{Text, same_text, is_among, with_text, without_text};
+ghost use Rattle.text_bytes.specs.Text.{Text};
+ghost use Rattle.text_tables.specs.Texts.{same_text, is_among, with_text, without_text};
 ghost use Rattle.text_tables.specs.Pairs.{names, named, value_of, with_value, without_name};
 
 /// What was added is there, and so is what was there before.

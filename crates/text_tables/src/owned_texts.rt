@@ -14,9 +14,10 @@ pub struct OwnedTexts {
 }
 
 impl Model for OwnedTexts {
-    ghost use Rattle.std.specs.Prelude.{List, ℕ, map};
+    ghost use Rattle.std.specs.Prelude.{List, map};
+    ghost use Rattle.text_bytes.specs.Text.{Text};
 
-    ghost Value = { List (List ℕ) };
+    ghost Value = { List Text };
 
     ghost view = { λ t. map (λ k. k.items) t.held.keys };
 }

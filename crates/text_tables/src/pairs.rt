@@ -17,9 +17,10 @@ pub struct Pairs<'a> {
 }
 
 impl<'a> Model for Pairs<'a> {
-    ghost use Rattle.std.specs.Prelude.{List, ℕ, map};
+    ghost use Rattle.std.specs.Prelude.{List, map};
+    ghost use Rattle.text_bytes.specs.Text.{Text};
 
-    ghost Value = { List (List ℕ × List ℕ) };
+    ghost Value = { List (Text × Text) };
 
     ghost view = { λ p. map (λ e. (e.0.now, e.1.now)) p.held.entries };
 }

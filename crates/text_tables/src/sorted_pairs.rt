@@ -25,11 +25,12 @@ pub struct SortedPairs<'a> {
 }
 
 impl<'a> Model for SortedPairs<'a> {
-    ghost use Rattle.std.specs.Prelude.{◌≡◌, List, ℕ, map};
+    ghost use Rattle.std.specs.Prelude.{◌≡◌, List, map};
+    ghost use Rattle.text_bytes.specs.Text.{Text};
     ghost use Rattle.text_tables.specs.Heads.{pair_at};
     ghost use Rattle.text_tables.specs.Sorted.{by_name};
 
-    ghost Value = { List (List ℕ × List ℕ) };
+    ghost Value = { List (Text × Text) };
 
     ghost view = { λ p. map (pair_at p.held) p.order.items };
 

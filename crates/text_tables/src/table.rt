@@ -14,9 +14,10 @@ pub struct Table<'a, V> {
 }
 
 impl<'a, V> Model for Table<'a, V> {
-    ghost use Rattle.std.specs.Prelude.{List, ℕ, map};
+    ghost use Rattle.std.specs.Prelude.{List, map};
+    ghost use Rattle.text_bytes.specs.Text.{Text};
 
-    ghost Value = { List (List ℕ × V) };
+    ghost Value = { List (Text × V) };
 
     ghost view = { λ t. map (λ e. (e.0.now, e.1)) t.held.entries };
 }

@@ -13,9 +13,10 @@ pub struct Texts<'a> {
 }
 
 impl<'a> Model for Texts<'a> {
-    ghost use Rattle.std.specs.Prelude.{List, ℕ, map};
+    ghost use Rattle.std.specs.Prelude.{List, map};
+    ghost use Rattle.text_bytes.specs.Text.{Text};
 
-    ghost Value = { List (List ℕ) };
+    ghost Value = { List Text };
 
     ghost view = { λ t. map (λ k. k.now) t.held.keys };
 }

@@ -4,7 +4,8 @@ use Rattle.std.proofs.lemmas.List.{map-append}
 use Rattle.std.proofs.lemmas.Bool.{ltb-true, ltb-false, lt-ltb, le-ltb}
 use Rattle.std.proofs.lemmas.List.Sums.{sum_by-cons, sum_by-append, sum_by_push}
 use Rattle.std.specs.Cmp.Lexicographic.{bytes_decides}
-use Rattle.text_tables.specs.Texts.{Text, same_text, is_among}
+use Rattle.text_bytes.specs.Text.{Text}
+use Rattle.text_tables.specs.Texts.{same_text, is_among}
 use Rattle.text_tallies.specs.Surplus.{times, unless_fewer, surplus_after, surplus}
 
 -- one if a text is the same as another

@@ -1,6 +1,7 @@
 -- Texts that one list has more often than another.
 use Rattle.std.specs.Prelude.{ℕ, if◌then◌else◌, nat_lt, List, [], ◌∷◌, ◌++◌, count_by}
-use Rattle.text_tables.specs.Texts.{Text, same_text}
+use Rattle.text_bytes.specs.Text.{Text}
+use Rattle.text_tables.specs.Texts.{same_text}
 
 -- how many times a text is in a list
 abbrev pub times : Text → List Text → ℕ

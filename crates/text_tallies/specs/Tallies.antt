@@ -1,7 +1,7 @@
 -- Serves inner proofs only: how many of each line are left while lines are removed.
 use Rattle.std.specs.Prelude.{◌≡◌, ℕ, List}
 use Rattle.std.specs.Option.{unwrap_or}
-use Rattle.text_tables.specs.Texts.{Text}
+use Rattle.text_bytes.specs.Text.{Text}
 use Rattle.text_tables.specs.Pairs.{value_of}
 use Rattle.text_tallies.specs.Surplus.{times}
 

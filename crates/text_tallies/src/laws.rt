@@ -1,6 +1,7 @@
 //! Laws of the texts that one list has more often than another. Each is the contract of a function with an empty body.
 ghost use Rattle.std.specs.Prelude.{◌≡◌, ◌↔◌, ◌+◌, ◌-◌, ◌≤◌, true, false, List, [], ◌∷◌, ◌++◌, codes, map};
-ghost use Rattle.text_tables.specs.Texts.{Text, is_among};
+ghost use Rattle.text_bytes.specs.Text.{Text};
+ghost use Rattle.text_tables.specs.Texts.{is_among};
 ghost use Rattle.text_tallies.specs.Surplus.{ShownLine, line_of, surplus, surplus_by, times, unless_fewer};
 
 /// A line is reported as many times as its list has it more often than the other list.

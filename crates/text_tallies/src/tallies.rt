@@ -4,7 +4,8 @@
 //! grows with the bytes of both lists, whatever the lines are.
 ghost use Rattle.std.specs.Prelude.{◌≡◌, ◌+◌, ◌-◌, ◌^◌, ◌<◌, if◌then◌else◌, nat_lt, map, IfOk, OnOk, OnErr};
 ghost use Rattle.text_tables.specs.Pairs.{with_value};
-ghost use Rattle.text_tables.specs.Texts.{Text, same_text};
+ghost use Rattle.text_bytes.specs.Text.{Text};
+ghost use Rattle.text_tables.specs.Texts.{same_text};
 ghost use Rattle.text_tallies.specs.Surplus.{ShownLine, line_of, surplus_by};
 ghost use Rattle.text_tallies.specs.Tallies.{left_of, Tallies};
 

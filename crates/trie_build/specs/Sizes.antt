@@ -1,5 +1,6 @@
 -- How long the index file of a list of entries is, and how large a trie may be.
 use Rattle.std.specs.Prelude.{ℕ, ◌+◌, ◌-◌, ◌*◌, ◌^◌, ◌≤◌, List, ◌∷◌, [], length, map, flat_map, sum_by, slice_index_or}
+use Rattle.text_bytes.specs.Text.{Text}
 use Rattle.text_bytes.specs.Insertion.{text_order}
 use Rattle.text_core.specs.declared.item.Item.{Item}
 use Rattle.text_core.specs.declared.item.Item.TheVariants.{Byte, One, Many, Among}
@@ -24,7 +25,7 @@ abbrev pub sets_of : List Entry → List (List ℕ)
 sets_of es = distinct text_order (flat_map (λ p. set_in (last_label p)) (paths_of es))
 
 -- the names of the files that the entries come from, each once, sorted
-abbrev pub names_of : List Entry → List (List ℕ)
+abbrev pub names_of : List Entry → List Text
 names_of es = distinct text_order (map (λ e. e.file) es)
 
 -- the bytes of the texts of an index: each entry's key and value, and each file's name once

@@ -1,6 +1,7 @@
 -- The index of a list of entries: its nodes, values, sets and text.
 use Rattle.std.specs.Prelude.{ℕ, ◌+◌, List, ◌∷◌, [], ◌++◌, length, map, flat_map, take, sum_by, count_by}
 use Rattle.std.specs.List.{enumerate_from}
+use Rattle.text_bytes.specs.Text.{Text}
 use Rattle.text_core.specs.declared.byte_set.ByteSet.{ByteSet}
 use Rattle.text_core.specs.declared.item.Item.{Item}
 use Rattle.text_core.specs.declared.item.Item.TheVariants.{Byte, One, Many, Among}
@@ -69,16 +70,16 @@ abbrev pub as_set : List ℕ → ByteSet
 as_set bits = record { bits = bits }
 
 -- the text: the key and the value of each value, and after all of these the names of the files
-abbrev pub own_text : Entry → List ℕ
+abbrev pub own_text : Entry → Text
 own_text e = e.key ++ e.value
 
-abbrev pub all_texts : List Entry → List ℕ
+abbrev pub all_texts : List Entry → Text
 all_texts es = flat_map own_text (by_nodes es)
 
-abbrev pub all_names : List (List ℕ) → List ℕ
+abbrev pub all_names : List Text → Text
 all_names names = flat_map (λ name. name) names
 
-abbrev pub image_text : List Entry → List ℕ
+abbrev pub image_text : List Entry → Text
 image_text es = all_texts es ++ all_names (names_of es)
 
 -- where the texts of value j begin
@@ -86,7 +87,7 @@ abbrev pub text_place : List Entry → ℕ → ℕ
 text_place es j = length (flat_map own_text (take j (by_nodes es)))
 
 -- where a file's name begins
-abbrev pub name_place : List Entry → List ℕ → ℕ
+abbrev pub name_place : List Entry → Text → ℕ
 name_place es name = length (all_texts es) + length (all_names (take (number_in text_order (names_of es) name) (names_of es)))
 
 -- the value with a number, of an entry

@@ -1,6 +1,7 @@
 -- Serves inner proofs only: what is written, by the nodes and the entries that it is written from.
 use Rattle.std.specs.Prelude.{ℕ, Bool, ◌+◌, ◌==◌, if◌then◌else◌, List, length, map, flat_map, take, sum_by}
 use Rattle.std.specs.List.{range_with_len}
+use Rattle.text_bytes.specs.Text.{Text}
 use Rattle.hwdb_lookup.specs.declared.entry.Entry.{Entry}
 use Rattle.trie_build.specs.Content.{entry_at}
 use Rattle.trie_nodes.specs.Tree.{node_at}
@@ -42,11 +43,11 @@ node_records sets nodes = map (node_record sets nodes) (range_with_len 0 (length
 abbrev pub place_before : List Entry → ℕ → ℕ
 place_before es j = length (flat_map own_text (take j es))
 
-abbrev pub name_before : List Entry → List (List ℕ) → ℕ → ℕ
+abbrev pub name_before : List Entry → List Text → ℕ → ℕ
 name_before es names k = length (flat_map own_text es) + length (all_names (take k names))
 
 -- entry j of some, as it is written
-abbrev pub value_record : List Entry → List (List ℕ) → ℕ → ValueRecord
+abbrev pub value_record : List Entry → List Text → ℕ → ValueRecord
 value_record es names j = record {
   key = record { place = place_before es j; len = length (entry_at es j).key };
   value = record { place = place_before es j + length (entry_at es j).key; len = length (entry_at es j).value };
@@ -55,14 +56,14 @@ value_record es names j = record {
   line = (entry_at es j).line;
 }
 
-abbrev pub value_records : List Entry → List (List ℕ) → List ValueRecord
+abbrev pub value_records : List Entry → List Text → List ValueRecord
 value_records es names = map (value_record es names) (range_with_len 0 (length es))
 
 -- where the names begin, and where the last of them ends
-abbrev pub name_places : List Entry → List (List ℕ) → List ℕ
+abbrev pub name_places : List Entry → List Text → List ℕ
 name_places es names = map (name_before es names) (range_with_len 0 (length names + 1))
 
 -- texts that rise, and are few
-pub record AreTexts (texts : List (List ℕ)) : Type 0 where
+pub record AreTexts (texts : List Text) : Type 0 where
   pub rise : Rises text_order texts
   pub few : IsSmall (length texts)

@@ -1,6 +1,7 @@
 -- What the nodes of a database hold for the devices that reach them.
 use Rattle.std.specs.Prelude.{ℕ, List, [], map, flat_map, slice_index_or}
 use Rattle.std.specs.List.{range_with_len}
+use Rattle.text_bytes.specs.Text.{Text}
 use Rattle.text_core.specs.declared.item.Item.{Item}
 use Rattle.hwdb_lookup.specs.declared.entry.Entry.{Entry}
 use Rattle.trie_nodes.specs.declared.node.Node.{Node}
@@ -8,10 +9,10 @@ use Rattle.trie_nodes.specs.Tree.{node_at, numbers, path}
 
 -- a property, with the order of its entry and the file and line that it comes from
 pub record Value : Type 0 where
-  pub key : List ℕ
-  pub value : List ℕ
+  pub key : Text
+  pub value : Text
   pub order : ℕ
-  pub file : List ℕ
+  pub file : Text
   pub line : ℕ
 
 -- a value, for numbers that none has

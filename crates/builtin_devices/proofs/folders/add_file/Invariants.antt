@@ -1,6 +1,6 @@
 use Rattle.std.proofs.Common.{◌≡◌, [], ◌∷◌, cond, length, slice_index_or, false, true}
 use Rattle.std.specs.Prelude.{nat_lt}
-use Rattle.text_tables.specs.Texts.{Text}
+use Rattle.text_bytes.specs.Text.{Text}
 use Rattle.builtin_devices.specs.Folders.{files_in, with_files}
 use Rattle.builtin_devices.proofs.folders.add_file.Given as goal
 

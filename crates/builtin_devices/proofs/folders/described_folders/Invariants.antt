@@ -1,5 +1,6 @@
 use Rattle.std.proofs.Common.{◌≡◌, Some, false, filter_map, length, map, slice_index_or, true}
-use Rattle.text_tables.specs.Texts.{Text, is_among}
+use Rattle.text_bytes.specs.Text.{Text}
+use Rattle.text_tables.specs.Texts.{is_among}
 use Rattle.builtin_devices.specs.Files.{file_below}
 use Rattle.builtin_devices.specs.Folders.{described_paths, file_of, files_in, with_files}
 use Rattle.builtin_devices.proofs.folders.described_folders.Given as goal

@@ -1,5 +1,6 @@
 use Rattle.std.proofs.Common.{◌≡◌, ◌⊎◌, length, map, slice_index_or, false, true}
-use Rattle.text_tables.specs.Texts.{Text, is_among}
+use Rattle.text_bytes.specs.Text.{Text}
+use Rattle.text_tables.specs.Texts.{is_among}
 use Rattle.builtin_devices.specs.Folders.{described_paths, file_of}
 use Rattle.builtin_devices.proofs.folders.described_lengths.Given as goal
 

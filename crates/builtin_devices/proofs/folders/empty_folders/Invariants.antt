@@ -1,5 +1,6 @@
 use Rattle.std.proofs.Common.{◌≡◌, ◌⊎◌, [], Some, map, true}
-use Rattle.text_tables.specs.Texts.{Text, is_among}
+use Rattle.text_bytes.specs.Text.{Text}
+use Rattle.text_tables.specs.Texts.{is_among}
 use Rattle.builtin_devices.specs.Folders.{described_paths, file_of, files_in}
 use Rattle.builtin_devices.proofs.folders.empty_folders.Given as goal
 

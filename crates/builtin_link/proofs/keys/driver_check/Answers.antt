@@ -1,6 +1,6 @@
 use Rattle.std.proofs.Common.{◌≡◌, ◌∙◌, IfOk, List, Option, codes, subst}
 use Rattle.text_tables.specs.Pairs.{value_of}
-use Rattle.text_tables.specs.Texts.{Text}
+use Rattle.text_bytes.specs.Text.{Text}
 use Rattle.builtin_link.specs.Checks.{known_check}
 use Rattle.builtin_link.specs.declared.checks.Need.TheVariants.{Driver}
 use Rattle.builtin_link.proofs.keys.driver_check.Goals as goal

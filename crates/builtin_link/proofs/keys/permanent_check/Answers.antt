@@ -1,5 +1,5 @@
 use Rattle.std.proofs.Common.{◌≡◌, ◌∙◌, IfOk, List, Option, subst}
-use Rattle.text_tables.specs.Texts.{Text}
+use Rattle.text_bytes.specs.Text.{Text}
 use Rattle.builtin_link.specs.Checks.{address_check, permanent_address}
 use Rattle.builtin_link.specs.declared.checks.Need.TheVariants.{PermanentAddress}
 use Rattle.builtin_link.proofs.keys.permanent_check.Goals as goal

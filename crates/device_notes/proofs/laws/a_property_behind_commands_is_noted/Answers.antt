@@ -1,5 +1,5 @@
 use Rattle.std.proofs.Common.{◌≡◌, List, [], ◌∷◌, Option, unwrap_or, subst, sym, ap, ◌∙◌, ◌↔◌, ◌≢◌}
-use Rattle.text_tables.specs.Texts.{Text}
+use Rattle.text_bytes.specs.Text.{Text}
 use Rattle.device_notes.specs.Laws.{notes_of}
 use Rattle.device_notes.specs.Notes.{is_behind_commands, note_about, note_if}
 use Rattle.device_notes.specs.declared.kinds.BlockNoteKind.TheVariants.{BehindCommands}

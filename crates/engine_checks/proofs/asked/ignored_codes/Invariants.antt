@@ -1,5 +1,6 @@
 use Rattle.std.proofs.Common.{◌≡◌, map, take}
-use Rattle.text_tables.specs.Texts.{Text, is_among}
+use Rattle.text_bytes.specs.Text.{Text}
+use Rattle.text_tables.specs.Texts.{is_among}
 use Rattle.engine_checks.proofs.asked.ignored_codes.Given as goal
 
 abbrev pub invariant-loop-text : goal.invariant-loop-text

@@ -1,6 +1,6 @@
 use Rattle.std.proofs.Common.{◌≡◌, ℕ, map, take}
 use Rattle.std.specs.List.{list_any}
-use Rattle.text_tables.specs.Texts.{Text}
+use Rattle.text_bytes.specs.Text.{Text}
 use Rattle.engine_formats.specs.Diagnostics.{shown}
 use Rattle.engine_checks.specs.Tables.{has_code_at, has_code_in}
 use Rattle.engine_checks.proofs.met.codes_at_lines.Given as goal

@@ -1,6 +1,7 @@
 use Rattle.std.proofs.Common.{◌≡◌, map, take}
 use Rattle.std.specs.List.{list_any}
-use Rattle.text_tables.specs.Texts.{Text, is_among}
+use Rattle.text_bytes.specs.Text.{Text}
+use Rattle.text_tables.specs.Texts.{is_among}
 use Rattle.engine_formats.specs.Diagnostics.{shown}
 use Rattle.engine_checks.specs.Tables.{has_code}
 use Rattle.engine_checks.proofs.met.codes_in_file.Given as goal

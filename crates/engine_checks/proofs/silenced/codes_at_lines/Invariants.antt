@@ -1,6 +1,6 @@
 use Rattle.std.proofs.Common.{◌≡◌, ℕ, take}
 use Rattle.std.specs.List.{list_any}
-use Rattle.text_tables.specs.Texts.{Text}
+use Rattle.text_bytes.specs.Text.{Text}
 use Rattle.engine_checks.specs.Tables.{has_code_at, is_next_at}
 use Rattle.engine_checks.proofs.silenced.codes_at_lines.Given as goal
 

@@ -1,5 +1,5 @@
 use Rattle.std.proofs.Common.{◌≡◌, Bor, List, ℕ, IfOk, map, ap, ap₂, ◌∙◌, subst}
-use Rattle.text_tables.specs.Texts.{Text}
+use Rattle.text_bytes.specs.Text.{Text}
 use Rattle.text_tallies.specs.Surplus.{ShownLine, line_of, surplus_by}
 use Rattle.engine_compare.specs.Differences.{ShownAnswer, compared_lines, differences, more_shown, reported_for, shown_lines, shown_of}
 use Rattle.engine_compare.proofs.Reporting.{seconds}

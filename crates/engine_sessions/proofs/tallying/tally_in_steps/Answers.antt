@@ -1,5 +1,5 @@
 use Rattle.std.proofs.Common.{◌++◌, ap, ◌∙◌}
-use Rattle.text_tables.specs.Texts.{Text}
+use Rattle.text_bytes.specs.Text.{Text}
 use Rattle.engine_sessions.specs.Sessions.{answer_of, asked_by}
 use Rattle.engine_sessions.specs.Tallies.{events_of}
 use Rattle.engine_sessions.proofs.Saying.{said_as}

@@ -1,5 +1,5 @@
 use Rattle.std.proofs.Common.{◌≡◌, ◌++◌, OnOk, append-nil, map, ap, subst, sym, ◌∙◌}
-use Rattle.text_tables.specs.Texts.{Text}
+use Rattle.text_bytes.specs.Text.{Text}
 use Rattle.engine_unused.proofs.Noting.{line_there, no_row, no_rule}
 use Rattle.engine_unused.proofs.lines.push_line_at.Goals as goal
 

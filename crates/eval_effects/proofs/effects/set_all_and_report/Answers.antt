@@ -1,6 +1,6 @@
 use Rattle.std.proofs.Common.{◌≡◌, ◌+◌, ◌∙◌, ◌++◌, List, ap, drop, fold, sym}
 use Rattle.std.proofs.lemmas.List.{drop_more}
-use Rattle.text_tables.specs.Texts.{Text}
+use Rattle.text_bytes.specs.Text.{Text}
 use Rattle.rule_types.specs.declared.part.Assignment.{Assignment}
 use Rattle.rule_types.specs.Rules.{Rule}
 use Rattle.eval_state.specs.declared.scene.Scene.{Scene}

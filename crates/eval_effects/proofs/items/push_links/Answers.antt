@@ -1,6 +1,6 @@
 use Rattle.std.proofs.Common.{◌≡◌, ℕ, ◌++◌, ◌∙◌, List, Vec, Global, OnOk, ap, codes, drop, map, subst, sym}
 use Rattle.std.proofs.lemmas.List.{drop-map}
-use Rattle.text_tables.specs.Texts.{Text}
+use Rattle.text_bytes.specs.Text.{Text}
 use Rattle.eval_effects.specs.Items.{text_items}
 use Rattle.eval_effects.proofs.items.push_links.Goals as goal
 

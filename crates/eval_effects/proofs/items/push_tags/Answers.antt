@@ -1,7 +1,7 @@
 use Rattle.std.proofs.Common.{◌≡◌, ℕ, ◌++◌, ◌∙◌, List, Vec, Global, OnOk, ap, codes, drop, flat_map, map, subst, sym}
 use Rattle.std.proofs.lemmas.List.{drop-map}
 use Rattle.text_tables.specs.Pairs.{Pair}
-use Rattle.text_tables.specs.Texts.{Text}
+use Rattle.text_bytes.specs.Text.{Text}
 use Rattle.eval_assignments.specs.Lists.{without_texts}
 use Rattle.eval_effects.specs.Inner.{tag_item}
 use Rattle.eval_effects.specs.Items.{text_items}

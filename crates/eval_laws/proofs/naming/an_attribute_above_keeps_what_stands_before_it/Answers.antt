@@ -1,6 +1,6 @@
 use Rattle.std.proofs.Common.{◌≡◌, ◌+◌, ◌-◌, ◌++◌, length, ap, arith, length-append}
 use Rattle.std.proofs.lemmas.List.{take_at}
-use Rattle.text_tables.specs.Texts.{Text}
+use Rattle.text_bytes.specs.Text.{Text}
 use Rattle.eval_state.specs.Named.{NamedValue}
 use Rattle.eval_assignments.specs.Attributes.{named_whole}
 use Rattle.eval_laws.proofs.naming.an_attribute_above_keeps_what_stands_before_it.Goals as goal

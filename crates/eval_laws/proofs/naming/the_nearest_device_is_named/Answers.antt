@@ -1,6 +1,7 @@
 use Rattle.std.proofs.Common.{◌≡◌, ◌↔◌, ◌&&◌, Bool, true, false, Option, Some, None, is_some, length, ap, refl, sym, ◌∙◌, true≢false}
 use Rattle.std.specs.Cmp.Lexicographic.{bytes_decides}
-use Rattle.text_tables.specs.Texts.{Text, same_text}
+use Rattle.text_bytes.specs.Text.{Text}
+use Rattle.text_tables.specs.Texts.{same_text}
 use Rattle.device_core.specs.Values.{DeviceValue, chain}
 use Rattle.eval_state.specs.Chains.{device_at, kernel_of}
 use Rattle.eval_state.specs.Named.{NamedValue, is_named, is_subsystem, named_place}

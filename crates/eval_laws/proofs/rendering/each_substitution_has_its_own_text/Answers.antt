@@ -1,7 +1,7 @@
 use Rattle.std.proofs.Common.{◌≡◌, ℕ, Option, Some, None, option_and_then, option_map, unwrap_or, codes, ap, refl, ◌∙◌}
 use Rattle.text_bytes.specs.Texts.{trimmed}
 use Rattle.text_bytes.specs.declared.profile.Profile.{Profile}
-use Rattle.text_tables.specs.Texts.{Text}
+use Rattle.text_bytes.specs.Text.{Text}
 use Rattle.device_core.specs.Values.{DeviceValue, NumberValue}
 use Rattle.text_links.specs.Safe.{attribute_marks, safe}
 use Rattle.eval_state.specs.Chains.{device_at, kernel_of}

@@ -1,5 +1,5 @@
 use Rattle.std.proofs.Common.{◌≡◌, false, Option, None, cond, ◌&&◌, is_none, refl, ap, ◌∙◌}
-use Rattle.text_tables.specs.Texts.{Text}
+use Rattle.text_bytes.specs.Text.{Text}
 use Rattle.rule_types.specs.declared.part.Comparison.{Comparison}
 use Rattle.eval_state.specs.Named.{named}
 use Rattle.eval_matching.specs.Attributes.{attribute_by, is_elsewhere, named_value, udev_subject, udev_value, value_by, written_value}

@@ -1,5 +1,5 @@
 use Rattle.std.proofs.Common.{◌≡◌, ◌++◌, ◌∷◌, [], Option, OnOk, codes, subst, sym, ◌∙◌}
-use Rattle.text_tables.specs.Texts.{Text}
+use Rattle.text_bytes.specs.Text.{Text}
 use Rattle.eval_effects.specs.Items.{item_name}
 use Rattle.eval_sources.proofs.Lookups.{at_attribute}
 use Rattle.eval_sources.proofs.look_ups.push_attribute.Goals as goal

@@ -1,5 +1,5 @@
 use Rattle.std.proofs.Common.{◌≡◌, ◌++◌, ◌∷◌, [], Some, None, Option, OnOk, cond, codes, ap, subst, sym, ◌∙◌}
-use Rattle.text_tables.specs.Texts.{Text}
+use Rattle.text_bytes.specs.Text.{Text}
 use Rattle.eval_effects.specs.Items.{item_name}
 use Rattle.eval_sources.proofs.Lookups.{at_tag}
 use Rattle.eval_sources.proofs.look_ups.push_tag.Goals as goal

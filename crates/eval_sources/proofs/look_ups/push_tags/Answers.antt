@@ -1,6 +1,6 @@
 use Rattle.std.proofs.Common.{◌≡◌, ◌++◌, ℕ, List, Vec, Global, OnOk, drop, map, ap, subst, sym, ◌∙◌}
 use Rattle.std.proofs.lemmas.List.{drop-map}
-use Rattle.text_tables.specs.Texts.{Text}
+use Rattle.text_bytes.specs.Text.{Text}
 use Rattle.eval_effects.specs.Items.{items}
 use Rattle.eval_sources.specs.Touched.{found, of_tags}
 use Rattle.eval_sources.proofs.look_ups.push_tags.Goals as goal

@@ -1,5 +1,5 @@
 use Rattle.std.proofs.Common.{◌≡◌, ◌++◌, List, Option, OnOk, append_assoc, ap, subst, ◌∙◌}
-use Rattle.text_tables.specs.Texts.{Text}
+use Rattle.text_bytes.specs.Text.{Text}
 use Rattle.eval_sources.specs.Touched.{marks_found, texts_found}
 use Rattle.eval_sources.proofs.Lookups.{node_is}
 use Rattle.eval_sources.proofs.node.push_node.Goals as goal

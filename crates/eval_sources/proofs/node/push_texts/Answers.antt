@@ -1,6 +1,6 @@
 use Rattle.std.proofs.Common.{◌≡◌, true, false, ◌++◌, ◌∷◌, [], List, Option, Some, None, OnOk, option_map, cond, codes, ap, subst, ◌∙◌}
 use Rattle.std.specs.Fmt.{signed_decimal}
-use Rattle.text_tables.specs.Texts.{Text}
+use Rattle.text_bytes.specs.Text.{Text}
 use Rattle.eval_state.specs.Texts.{filled}
 use Rattle.eval_state.specs.declared.scene.Scene.{Scene}
 use Rattle.eval_sources.specs.Touched.{is_watch}

@@ -1,5 +1,6 @@
 use Rattle.std.proofs.Common.{◌≡◌, Bool, true, false, ◌||◌, Option, Some, None, cond, refl}
-use Rattle.text_tables.specs.Texts.{Text, is_among}
+use Rattle.text_bytes.specs.Text.{Text}
+use Rattle.text_tables.specs.Texts.{is_among}
 use Rattle.json.specs.Json.{Json}
 use Rattle.lsp_messages.specs.Changes.{changes_of}
 use Rattle.lsp_messages.specs.Parameters.{opened_of, uri_of, version_of}

@@ -6,7 +6,7 @@ use Rattle.std.proofs.lemmas.List.Sorted.{answers_always, ranks_by}
 use Rattle.std.specs.List.Sorted.{IsPermutation}
 use Rattle.text_tables.specs.Heads.{pair_at}
 use Rattle.text_tables.specs.Sorted.{by_name}
-use Rattle.text_tables.specs.Texts.{Text}
+use Rattle.text_bytes.specs.Text.{Text}
 use Rattle.text_tables.proofs.Places.{if_there, sorted_places}
 use Rattle.text_tables.proofs.sorted_pairs.places_by_name.Goals as goal
 

@@ -8,7 +8,7 @@ use Rattle.engine_ends.proofs.Counting.{counts-none}
 use Rattle.engine_ends.proofs.Reported.{followed_by-nil}
 use Rattle.engine_sessions.specs.Inputs.{most_turns}
 use Rattle.engine_sessions.specs.Turns.{joined}
-use Rattle.engine_sessions.proofs.Turns.{joined-push, left_after, led_by-nil, none_left_after, one_more, reads_after}
+use Rattle.engine_sessions.proofs.ReadPieces.{joined-push, left_after, led_by-nil, none_left_after, one_more, reads_after}
 use Rattle.devdry_input.specs.Pieces.{Adds, AddsNot}
 use Rattle.devdry_input.specs.Whole.{ReadsNot, ReadsText, ReadsWhole}
 use Rattle.devdry_input.specs.declared.reading.InputFault.{InputFault}

@@ -1,5 +1,5 @@
 -- What the definitions say of words that are written out.
-use Rattle.std.proofs.Common.{◌≡◌, ◌++◌, ◌||◌, Bool, refl, true, false, List, [], ◌∷◌, Option, Some, None, codes, map, option_map}
+use Rattle.std.proofs.Common.{◌≡◌, ◌++◌, ◌||◌, Bool, refl, true, false, List, [], ◌∷◌, Option, Some, None, codes, option_map}
 use Rattle.std.specs.List.{filter_map, flat_map, list_all, list_any}
 use Rattle.std.specs.Option.{option_map_or}
 use Rattle.std.specs.Str.{bytes_eq}
@@ -18,19 +18,17 @@ use Rattle.engine_ends.specs.declared.line.Color.TheVariants.{Auto, Always, Neve
 use Rattle.engine_ends.specs.declared.line.Format.{Format}
 use Rattle.engine_ends.specs.declared.line.Format.TheVariants.{Plain, Gcc, Github, Gitlab, Json, Sarif, Human, HumanInColor}
 use Rattle.devdry_words.specs.declared.refusals.Refusal.{Refusal}
-use Rattle.devdry_words.specs.declared.refusals.Refusal.TheVariants.{TwoDatabases, LinksAsRules, AddedToNamed, AddedToRules, AddedToIndex, TwoAnswers, LinesBesideJson, InputTwice, UnreadInput, EmptyRoot, EmptySide, NoUdev, UnknownFormat, NoAnswerFormat, UnknownColor, UnknownPart, NotRules, NotFile}
 use Rattle.engine_ends.specs.declared.line.Verb.TheVariants.{Update, Verify, Events}
-use Rattle.devdry_words.specs.Lines.{asks_every, color_name, color_named, color_of, files_of, format_name, format_named, format_of, is_set_or_every, profile_of}
+use Rattle.devdry_words.specs.Lines.{color_name, color_named, color_of, files_of, format_name, format_named, format_of, is_set_or_every, profile_of}
 use Rattle.text_bytes.specs.Texts.{split_once}
 use Rattle.text_bytes.specs.declared.profile.Profile.{Profile}
 use Rattle.text_bytes.specs.declared.profile.Profile.TheVariants.{Manual, Udev}
-use Rattle.engine_formats.specs.Codes.{remark_of, remarks}
-use Rattle.engine_formats.specs.Remarks.{code_of, heading_parts}
-use Rattle.devdry_words.specs.Refusals.{known_codes, listed, refusal_of, unknown_part}
+use Rattle.engine_formats.specs.Remarks.{heading_parts}
+use Rattle.devdry_words.specs.Refusals.{known_codes, listed, refusal_of}
 use Rattle.devdry_options.specs.Names.{flag_names, repeated_names, valued_names}
 use Rattle.devdry_words.specs.Options.{options_in, with_options}
 use Rattle.devdry_words.specs.Requests.{added_of, side_files, side_root}
-use Rattle.engine_formats.specs.Ignored.{codes_with, cut_at_commas}
+use Rattle.engine_formats.specs.Ignored.{cut_at_commas}
 use Rattle.devdry_words.specs.Values.{is_set, texts_of, text_of}
 
 abbrev query_words : List Text
@@ -194,98 +192,10 @@ questions_of_compare : fault_of devdry (codes "compare" ∷ codes "--questions" 
 unfolding clap_on_literals devdry
 questions_of_compare = refl
 
--- what is refused of words that clap takes
-abbrev refused : List Text → Option (Option Refusal)
-refused words = option_map (λ p. refusal_of p.0 p.1) (subcommand_of devdry words)
-
-two_databases_are_refused : refused (codes "query" ∷ codes "--index=a" ∷ codes "m" ∷ codes "b" ∷ []) ≡ Some (Some TwoDatabases)
-unfolding clap_on_literals devdry
-two_databases_are_refused = refl
-
-questions_with_sources_are_refused : refused (codes "events" ∷ codes "--questions" ∷ codes "--sources" ∷ []) ≡ Some (Some TwoAnswers)
-unfolding clap_on_literals devdry
-questions_with_sources_are_refused = refl
-
-questions_with_a_reason_are_refused : refused (codes "events" ∷ codes "--why=a.rules" ∷ codes "--questions" ∷ []) ≡ Some (Some TwoAnswers)
-unfolding clap_on_literals devdry
-questions_with_a_reason_are_refused = refl
-
-questions_with_unused_rules_are_refused : refused (codes "events" ∷ codes "--unused" ∷ codes "--questions" ∷ []) ≡ Some (Some TwoAnswers)
-unfolding clap_on_literals devdry
-questions_with_unused_rules_are_refused = refl
-
-an_answer_for_gcc_is_refused : refused (codes "events" ∷ codes "--format" ∷ codes "gcc" ∷ []) ≡ Some (Some NoAnswerFormat)
-unfolding clap_on_literals devdry
-an_answer_for_gcc_is_refused = refl
-
-unknown_format_of_compare_is_refused : refused (codes "compare" ∷ codes "--format=xml" ∷ codes "/old" ∷ codes "/new" ∷ []) ≡ Some (Some NoAnswerFormat)
-unfolding clap_on_literals devdry
-unknown_format_of_compare_is_refused = refl
-
-unused_rules_beside_json_are_refused : refused (codes "events" ∷ codes "--unused" ∷ codes "--format=json" ∷ []) ≡ Some (Some LinesBesideJson)
-unfolding clap_on_literals devdry
-unused_rules_beside_json_are_refused = refl
-
-questions_beside_json_are_refused : refused (codes "events" ∷ codes "--questions" ∷ codes "--format=json" ∷ []) ≡ Some (Some LinesBesideJson)
-unfolding clap_on_literals devdry
-questions_beside_json_are_refused = refl
-
-links_of_a_strict_run_are_refused : refused (codes "verify" ∷ codes "--strict" ∷ codes "--links" ∷ []) ≡ Some (Some LinksAsRules)
-unfolding clap_on_literals devdry
-links_of_a_strict_run_are_refused = refl
-
-links_with_groups_are_refused : refused (codes "verify" ∷ codes "--links" ∷ codes "--groups=group" ∷ []) ≡ Some (Some LinksAsRules)
-unfolding clap_on_literals devdry
-links_with_groups_are_refused = refl
-
-blocks_beside_the_input_as_rules_are_refused : refused (codes "events" ∷ codes "a.rules" ∷ codes "-" ∷ []) ≡ Some (Some InputTwice)
-unfolding clap_on_literals devdry
-blocks_beside_the_input_as_rules_are_refused = refl
-
-modaliases_beside_the_input_as_database_are_refused : refused (codes "query" ∷ codes "-" ∷ codes "-" ∷ []) ≡ Some (Some InputTwice)
-unfolding clap_on_literals devdry
-modaliases_beside_the_input_as_database_are_refused = refl
-
-a_name_of_the_input_without_it_is_refused : refused (codes "verify" ∷ codes "--stdin-name=a.rules" ∷ codes "./-" ∷ []) ≡ Some (Some UnreadInput)
-unfolding clap_on_literals devdry
-a_name_of_the_input_without_it_is_refused = refl
-
-the_input_with_a_name_is_taken : refused (codes "verify" ∷ codes "--stdin-name=a.rules" ∷ codes "-" ∷ []) ≡ Some None
-unfolding clap_on_literals devdry
-the_input_with_a_name_is_taken = refl
-
 files_have_their_names : option_map {U = List Text} (λ p. files_of p.1) (subcommand_of devdry (codes "verify" ∷ codes "--stdin-name=a.rules" ∷ codes "b.rules" ∷ codes "-" ∷ codes "./-" ∷ []))
     ≡ Some (codes "b.rules" ∷ codes "a.rules" ∷ codes "./-" ∷ [])
 unfolding clap_on_literals devdry
 files_have_their_names = refl
-
-questions_alone_are_taken : refused (codes "events" ∷ codes "--questions" ∷ codes "--udev" ∷ []) ≡ Some None
-unfolding clap_on_literals devdry
-questions_alone_are_taken = refl
-
-empty_root_is_refused : refused (codes "verify" ∷ codes "--all" ∷ codes "-r" ∷ [] ∷ []) ≡ Some (Some EmptyRoot)
-unfolding clap_on_literals devdry
-empty_root_is_refused = refl
-
-users_without_udev_are_refused : refused (codes "verify" ∷ codes "--users=passwd" ∷ codes "a.rules" ∷ []) ≡ Some (Some NoUdev)
-unfolding clap_on_literals devdry
-users_without_udev_are_refused = refl
-
-groups_of_udev_are_taken : refused (codes "verify" ∷ codes "--udev" ∷ codes "--groups" ∷ codes "group" ∷ []) ≡ Some None
-unfolding clap_on_literals devdry
-groups_of_udev_are_taken = refl
-
-unknown_format_is_refused : refused (codes "update" ∷ codes "--format=xml" ∷ []) ≡ Some (Some UnknownFormat)
-unfolding clap_on_literals devdry
-unknown_format_is_refused = refl
-
-unknown_color_is_refused : refused (codes "verify" ∷ codes "--color=yes" ∷ []) ≡ Some (Some UnknownColor)
-unfolding clap_on_literals devdry
-unknown_color_is_refused = refl
-
-color_of_another_format_is_taken : refused (codes "update" ∷ codes "--color=always" ∷ codes "--format=gcc" ∷ []) ≡ Some None
-unfolding clap_on_literals devdry
-color_of_another_format_is_taken = refl
 
 color_is_asked : option_map {U = Option Color} (λ p. color_of p.1) (subcommand_of devdry (codes "verify" ∷ codes "--color" ∷ codes "never" ∷ codes "a.rules" ∷ [])) ≡ Some (Some Never)
 unfolding clap_on_literals devdry
@@ -294,38 +204,6 @@ color_is_asked = refl
 color_of_query : fault_of devdry (codes "query" ∷ codes "--color=never" ∷ codes "usb:v1" ∷ []) ≡ kind.UnknownArgument ∷ []
 unfolding clap_on_literals devdry
 color_of_query = refl
-
-empty_root_of_files_is_refused : refused (codes "files" ∷ codes "-r" ∷ [] ∷ []) ≡ Some (Some EmptyRoot)
-unfolding clap_on_literals devdry
-empty_root_of_files_is_refused = refl
-
-empty_root_of_events_is_taken : refused (codes "events" ∷ codes "-r" ∷ [] ∷ []) ≡ Some None
-unfolding clap_on_literals devdry
-empty_root_of_events_is_taken = refl
-
-empty_old_root_is_refused : refused (codes "compare" ∷ [] ∷ codes "/new" ∷ []) ≡ Some (Some EmptySide)
-unfolding clap_on_literals devdry
-empty_old_root_is_refused = refl
-
-empty_new_root_is_refused : refused (codes "compare" ∷ codes "/old" ∷ [] ∷ []) ≡ Some (Some EmptySide)
-unfolding clap_on_literals devdry
-empty_new_root_is_refused = refl
-
-two_roots_are_taken : refused (codes "compare" ∷ codes "/old" ∷ codes "/new" ∷ []) ≡ Some None
-unfolding clap_on_literals devdry
-two_roots_are_taken = refl
-
-added_to_named_files_is_refused : refused (codes "events" ∷ codes "--with=a.hwdb" ∷ codes "b.rules" ∷ []) ≡ Some (Some AddedToNamed)
-unfolding clap_on_literals devdry
-added_to_named_files_is_refused = refl
-
-added_to_rules_is_refused : refused (codes "compare" ∷ codes "--rules" ∷ codes "--with=a.rules" ∷ codes "b.rules" ∷ codes "c.rules" ∷ []) ≡ Some (Some AddedToRules)
-unfolding clap_on_literals devdry
-added_to_rules_is_refused = refl
-
-input_as_rules_is_refused : refused (codes "compare" ∷ codes "b.rules" ∷ codes "-" ∷ codes "--rules" ∷ []) ≡ Some (Some InputTwice)
-unfolding clap_on_literals devdry
-input_as_rules_is_refused = refl
 
 rules_are_sides : option_map {U = Text × (List Text × (Text × List Text))} (λ p. (side_root (codes "OLD") p.1, (side_files (codes "OLD") p.1, (side_root (codes "NEW") p.1, side_files (codes "NEW") p.1)))) (subcommand_of devdry (codes "compare" ∷ codes "--rules" ∷ codes "a.rules" ∷ codes "b" ∷ []))
     ≡ Some ([], (codes "a.rules" ∷ [], ([], codes "b" ∷ [])))
@@ -337,22 +215,6 @@ roots_are_sides : option_map {U = Text × (List Text × (Text × List Text))} (�
 unfolding clap_on_literals devdry
 roots_are_sides = refl
 
-added_to_an_index_is_refused : refused (codes "compare" ∷ codes "--with=a.rules" ∷ codes "--with=a.hwdb" ∷ codes "--index=i" ∷ codes "/old" ∷ codes "/new" ∷ []) ≡ Some (Some AddedToIndex)
-unfolding clap_on_literals devdry
-added_to_an_index_is_refused = refl
-
-rules_beside_an_index_are_taken : refused (codes "events" ∷ codes "--index=i" ∷ codes "--with" ∷ codes "a.rules" ∷ []) ≡ Some None
-unfolding clap_on_literals devdry
-rules_beside_an_index_are_taken = refl
-
-a_database_for_verify_is_refused : refused (codes "verify" ∷ codes "--with=a.rules" ∷ codes "--with=a.hwdb" ∷ []) ≡ Some (Some NotRules)
-unfolding clap_on_literals devdry
-a_database_for_verify_is_refused = refl
-
-another_file_is_refused : refused (codes "files" ∷ codes "--with=a.hwdb" ∷ codes "--with=a.rules.old" ∷ []) ≡ Some (Some NotFile)
-unfolding clap_on_literals devdry
-another_file_is_refused = refl
-
 with_of_query : fault_of devdry (codes "query" ∷ codes "--with=a.hwdb" ∷ codes "usb:v1" ∷ []) ≡ kind.UnknownArgument ∷ []
 unfolding clap_on_literals devdry
 with_of_query = refl
@@ -362,29 +224,6 @@ added_files_are_asked : option_map {U = List Text × Option Refusal} (λ p. (add
 unfolding clap_on_literals devdry
 added_files_are_asked = refl
 
-abbrev unknown : List Text → Option (Option Text)
-unknown words = option_map (λ p. unknown_part p.1) (subcommand_of devdry words)
-
-first_unknown_is_found : unknown (codes "verify" ∷ codes "--ignore" ∷ codes "V6,comments" ∷ codes "--ignore=S2,X6,v6" ∷ []) ≡ Some (Some (codes "X6"))
-unfolding clap_on_literals devdry remark_of heading_parts split_once
-first_unknown_is_found = refl
-
-known_codes_are_taken : refused (codes "update" ∷ codes "--ignore" ∷ codes "H1,W13,I1" ∷ codes "--ignore=comments" ∷ []) ≡ Some None
-unfolding clap_on_literals devdry remark_of heading_parts split_once
-known_codes_are_taken = refl
-
-small_letter_is_refused : refused (codes "verify" ∷ codes "--ignore=v6" ∷ []) ≡ Some (Some UnknownPart)
-unfolding clap_on_literals devdry remark_of heading_parts split_once
-small_letter_is_refused = refl
-
-no_code_is_refused : refused (codes "verify" ∷ codes "--ignore=" ∷ []) ≡ Some (Some UnknownPart)
-unfolding clap_on_literals devdry remark_of heading_parts split_once
-no_code_is_refused = refl
-
-no_root_is_taken : refused (codes "verify" ∷ codes "--all" ∷ []) ≡ Some None
-unfolding clap_on_literals devdry
-no_root_is_taken = refl
-
 strict_makes_every_check : option_map {U = Bool × (Profile × Bool)} (λ p. (is_set_or_every Verify (codes "lint") p.1, (profile_of Verify p.1, is_set_or_every Verify (codes "all") p.1))) (subcommand_of devdry (codes "verify" ∷ codes "--strict" ∷ []))
     ≡ Some (true, (Udev, true))
 unfolding clap_on_literals devdry
@@ -393,22 +232,6 @@ strict_makes_every_check = refl
 strict_update_makes_no_check : option_map {U = Bool} (λ p. is_set_or_every Update (codes "all") p.1) (subcommand_of devdry (codes "update" ∷ codes "-s" ∷ [])) ≡ Some false
 unfolding clap_on_literals devdry
 strict_update_makes_no_check = refl
-
-strict_needs_a_root : refused (codes "verify" ∷ codes "--strict" ∷ codes "--root=" ∷ []) ≡ Some (Some EmptyRoot)
-unfolding clap_on_literals devdry
-strict_needs_a_root = refl
-
-strict_knows_users : refused (codes "verify" ∷ codes "--strict" ∷ codes "--users=passwd" ∷ []) ≡ Some None
-unfolding clap_on_literals devdry
-strict_knows_users = refl
-
-classes_are_taken : refused (codes "verify" ∷ codes "--ignore" ∷ codes "S,W13,I" ∷ []) ≡ Some None
-unfolding clap_on_literals devdry remark_of heading_parts split_once codes_with
-classes_are_taken = refl
-
-no_class_is_refused : refused (codes "verify" ∷ codes "--ignore" ∷ codes "s" ∷ []) ≡ Some (Some UnknownPart)
-unfolding clap_on_literals devdry remark_of heading_parts split_once codes_with
-no_class_is_refused = refl
 
 events_go_on : option_map {U = Bool} (λ p. is_set_or_every Events (codes "all") p.1) (subcommand_of devdry (codes "events" ∷ codes "--all" ∷ [])) ≡ Some true
 unfolding clap_on_literals devdry

@@ -5,6 +5,7 @@ pub mod Chunks
 pub mod BlockLemmas
 pub mod Steps
 pub mod RunEnds
+pub mod RowsJudged
 pub mod Judged
 pub mod Reading
 pub mod Added

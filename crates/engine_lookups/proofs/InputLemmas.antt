@@ -16,7 +16,7 @@ use Rattle.engine_ends.proofs.Reported.{followed_by-nil}
 use Rattle.engine_sessions.specs.Inputs.{BeforeReads, GoesOn, ReadsWell, UsesUp, all_but_last, most_turns}
 use Rattle.engine_sessions.specs.Serves.{HasFlushed, WritesOut}
 use Rattle.engine_sessions.specs.Turns.{Reads, joined, most_read}
-use Rattle.engine_sessions.proofs.Turns.{all_but_last-push, goes_on-few, goes_on-push, joined-push, later_none, led_by-nil, left_after, none_left_after, one_more, reads_after, reads_more, shown, some_byte, to_fault, went_on}
+use Rattle.engine_sessions.proofs.ReadPieces.{all_but_last-push, goes_on-few, goes_on-push, joined-push, later_none, led_by-nil, left_after, none_left_after, one_more, reads_after, reads_more, shown, some_byte, to_fault, went_on}
 use Rattle.engine_lookups.specs.Outcomes.{most_bytes}
 use Rattle.engine_lookups.specs.Runs.{HasAnswered, HoldsFew, ended_lines, unended}
 use Rattle.engine_lookups.specs.Taking.{Answers, HeldLine, IsOpen, Leads, StopsBy, StopsIn, first_line}

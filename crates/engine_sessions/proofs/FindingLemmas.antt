@@ -18,7 +18,8 @@ use Rattle.engine_sessions.specs.declared.session.Step.{Step}
 use Rattle.engine_sessions.specs.declared.turning.TurnFault.{TurnFault}
 use Rattle.engine_sessions.specs.declared.turning.TurnFault.TheVariants.{Read}
 use Rattle.engine_sessions.proofs.TurnLemmas.{Sent, at, sent-all, sent-all_texts, sent-more, sent-more_texts, sent-none, sent-none_texts}
-use Rattle.engine_sessions.proofs.Turns.{Served, failed, finished, finished_read, finished_sent, served_at_start, served_at_start_read, served_at_start_sent, served_more, served_more_read, served_more_sent, shown, used_up}
+use Rattle.engine_sessions.proofs.ReadPieces.{shown}
+use Rattle.engine_sessions.proofs.Turns.{Served, failed, finished, finished_read, finished_sent, served_at_start, served_at_start_read, served_at_start_sent, served_more, served_more_read, served_more_sent, used_up}
 
 some_either : (m n : ℕ) → not (m + n == 0) ≡ (not (m == 0) || not (n == 0))
 some_either zero n = ap (λ k. not (k == 0)) (zero-add n)

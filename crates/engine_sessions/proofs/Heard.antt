@@ -13,7 +13,7 @@ use Rattle.engine_sessions.specs.Tallies.{HearsInput, IsTold}
 use Rattle.engine_sessions.specs.declared.turning.TurnFault.{TurnFault}
 use Rattle.engine_sessions.specs.declared.turning.TurnFault.TheVariants.{Read}
 use Rattle.engine_sessions.proofs.TurnLemmas.{at}
-use Rattle.engine_sessions.proofs.Turns.{joined-push, shown}
+use Rattle.engine_sessions.proofs.ReadPieces.{joined-push, shown}
 use Rattle.engine_sessions.proofs.FindingLemmas.{ServedFinding, finding_at_start, finding_at_start_read, finding_failed, finding_finished, finding_finished_read, finding_more, finding_more_read, finding_used_up}
 use Rattle.engine_sessions.proofs.Telling.{told_more}
 

@@ -5,6 +5,7 @@ pub mod SendLemmas
 pub mod WriteLemmas
 pub mod Failing
 pub mod KnownLemmas
+pub mod ReadPieces
 pub mod Turns
 pub mod FindingLemmas
 pub mod FindServing

@@ -1,21 +1,17 @@
 -- Turn after turn.
-use Rattle.std.proofs.Common.{◌≡◌, ℕ, zero, suc, ◌+◌, ◌-◌, ◌<◌, ◌≤◌, ◌⊎◌, inl, inr, length, take, Bool, true, false, Option, None, Some, List, [], ◌∷◌, ◌++◌, refl, Ok, Err, append_assoc, length-append, ap, sym, ◌∙◌, subst, arith}
-use Rattle.std.proofs.lemmas.Bool.{cases_lt}
-use Rattle.std.proofs.lemmas.List.{append-nil, take-append-le}
-use Rattle.std.proofs.lemmas.Grind.{common_steps, flat_map-append}
-use Rattle.std.proofs.Math.Seq.{take-length}
+use Rattle.std.proofs.Common.{◌≡◌, ℕ, ◌+◌, ◌≤◌, inl, inr, length, Bool, true, false, Some, List, [], ◌∷◌, ◌++◌, refl, Ok, Err, append_assoc, length-append, ap, sym, ◌∙◌, subst, arith}
+use Rattle.std.proofs.lemmas.List.{append-nil}
 use Rattle.text_bytes.specs.Text.{Text}
 use Rattle.device_core.specs.Runs.{complete_runs, rest_of}
 use Rattle.device_core.specs.RunBlocks.{most_bytes}
 use Rattle.device_core.proofs.Law.{complete_runs-append, rest_of-append}
 use Rattle.device_core.specs.Values.{EventValue}
 use Rattle.device_core.specs.declared.faults.BlockFault.{BlockFault}
-use Rattle.engine_ends.specs.Reported.{followed_by, led_by, NoneLeft}
-use Rattle.engine_ends.specs.Counts.{Counts}
-use Rattle.engine_ends.specs.Sources.{Gives, SourceFails, SourceState}
+use Rattle.engine_ends.specs.Reported.{followed_by, led_by}
+use Rattle.engine_ends.specs.Sources.{SourceState}
 use Rattle.engine_ends.specs.Sinks.{SinkState}
-use Rattle.engine_ends.proofs.Counting.{counts-none, counts-more}
-use Rattle.engine_ends.proofs.Reported.{followed_by-append, followed_by-nil}
+use Rattle.engine_ends.proofs.Counting.{counts-none}
+use Rattle.engine_ends.proofs.Reported.{followed_by-nil}
 use Rattle.engine_sessions.specs.Answers.{Answers, answers_to, answers_of, well, counted, number_after}
 use Rattle.engine_sessions.specs.Sessions.{Held, opened}
 use Rattle.engine_sessions.specs.Turns.{Sends, joined, Reads, SendsDue, due, Refuses, Turns, TurnFailsBy}
@@ -26,11 +22,8 @@ use Rattle.engine_sessions.proofs.AnswerLemmas.{with_texts, answers_to-append, c
 use Rattle.engine_sessions.proofs.SendLemmas.{sends-none, sends-more}
 use Rattle.engine_sessions.proofs.TurnLemmas.{at}
 use Rattle.engine_sessions.proofs.LawLemmas.{Given, until, complete_well, after_well, first_answers, stays_faulty}
-use Rattle.engine_sessions.specs.Inputs.{most_turns, all_but_last, BeforeReads, GoesOn, HasSentDue, Devices, HoldsFew, StopsAtBlock, ReadsWell, ReadsToFault, AnswersInput}
-
--- no more is held, neither before one of these pieces nor after them, than a block may have
-abbrev pub HoldsUpTo : List Text → Type 0
-HoldsUpTo read = (n : ℕ) → n ≤ length read → length (rest_of (joined (take n read))) ≤ most_bytes
+use Rattle.engine_sessions.specs.Inputs.{most_turns, BeforeReads, GoesOn, HasSentDue, HoldsFew, StopsAtBlock, ReadsWell, AnswersInput}
+use Rattle.engine_sessions.proofs.ReadPieces.{HoldsUpTo, all_but_last-push, few_after, few_of, goes_on-few, goes_on-push, joined-push, later_none, led_by-nil, left_after, none_at_start, none_left_after, one_more, reads_after, reads_more, shown, some_byte, to_fault, up_to_after, went_on}
 
 -- All that is due after some turns is sent.
 pub record Served {A : Type 0} (answer : EventValue → Text) (first : Held A) (input now : SourceState) (output sink : SinkState) (session : Held A) (turns : ℕ) : Type 0 where
@@ -48,20 +41,6 @@ pub record Served {A : Type 0} (answer : EventValue → Text) (first : Held A) (
   pub proceeds : session.ended ≡ false
   pub answering : session.answering ≡ first.answering
 
-pub led_by-nil : (shown : Option Text) → led_by [] shown ≡ shown
-led_by-nil None = refl
-led_by-nil (Some rest) = refl
-
-led_by-append : (first second : Text) (shown : Option Text) → led_by first (led_by second shown) ≡ led_by (first ++ second) shown
-led_by-append first second None = refl
-led_by-append first second (Some rest) = ap Some (sym (append_assoc first second rest))
-
-pub joined-push : (read : List Text) (piece : Text) → joined (read ++ piece ∷ []) ≡ joined read ++ piece
-joined-push read piece = flat_map-append (λ text. text) read (piece ∷ []) ∙ ap (λ l. joined read ++ l) (append-nil piece)
-
-pub all_but_last-push : (read : List Text) (piece : Text) → all_but_last (read ++ piece ∷ []) ≡ read
-all_but_last-push read piece = grind (arith, common_steps)
-
 -- nothing is due at the start
 due_at_start : (answer : EventValue → Text) → HasSentDue answer [] []
 due_at_start answer = ([], refl)
@@ -70,78 +49,6 @@ due_at_start answer = ([], refl)
 due_after : (answer : EventValue → Text) (read : List Text) (piece : Text) (sent more : List Text) → answers_to answer (complete_runs (joined read)) ≡ well sent → HasSentDue answer (read ++ piece ∷ []) (sent ++ more)
 due_after answer read piece sent more e =
     (more, ap (λ texts. texts ++ more) (sym (ap (λ pieces. (answers_to answer (complete_runs (joined pieces))).texts) (all_but_last-push read piece) ∙ ap (λ a. a.texts) e)))
-
-pub one_more : (input now later : SourceState) (read : List Text) (piece : Text) → now.pieces ≡ followed_by input.pieces read → later.pieces ≡ followed_by now.pieces (piece ∷ []) → later.pieces ≡ followed_by input.pieces (read ++ piece ∷ [])
-one_more input now later read piece p q = q ∙ ap (λ shown. followed_by shown (piece ∷ [])) p ∙ followed_by-append input.pieces read (piece ∷ [])
-
-pub left_after : (input now later : SourceState) (read : List Text) (piece : Text) → input.left ≡ led_by (joined read) now.left → now.left ≡ led_by piece later.left → input.left ≡ led_by (joined (read ++ piece ∷ [])) later.left
-left_after input now later read piece p q = p ∙ ap (led_by (joined read)) q ∙ led_by-append (joined read) piece later.left ∙ ap (λ text. led_by text later.left) (sym (joined-push read piece))
-
--- what was held before each piece, with one more piece after them
-few_after : (read : List Text) (piece : Text) → HoldsUpTo read → HoldsFew (read ++ piece ∷ [])
-few_after read piece fits n h =
-    let within : n ≤ length read = omega (arith, h, length-append read (piece ∷ [])) in
-    subst (λ pieces. length (rest_of (joined pieces)) ≤ most_bytes) (sym (take-append-le n read (piece ∷ []) within)) (fits n within)
-
-few_of : (read : List Text) → HoldsUpTo read → HoldsFew read
-few_of read fits n h = fits n (omega (arith, h))
-
--- and after it
-up_to_after : (read : List Text) (piece : Text) → HoldsUpTo read → length (rest_of (joined (read ++ piece ∷ []))) ≤ most_bytes → HoldsUpTo (read ++ piece ∷ [])
-up_to_after read piece fits last n h = by_case (cases_lt n (length (read ++ piece ∷ [])))
-  where
-    by_case : (n < length (read ++ piece ∷ [])) ⊎ (length (read ++ piece ∷ []) ≤ n) → length (rest_of (joined (take n (read ++ piece ∷ [])))) ≤ most_bytes
-    by_case (inl l) = few_after read piece fits n l
-    by_case (inr l) =
-        let all : n ≡ length (read ++ piece ∷ []) = omega (arith, h, l) in
-        subst (λ pieces. length (rest_of (joined pieces)) ≤ most_bytes) (sym (ap (λ k. take k (read ++ piece ∷ [])) all ∙ take-length (read ++ piece ∷ []))) last
-
-none_at_start : HoldsUpTo []
-none_at_start n h = let none : n ≡ 0 = omega (arith, h) in rw none (omega arith)
-
--- one read more was made
-pub reads_more : (turns : ℕ) (input now later : SourceState) → ReadsWell turns input now → Counts 1 now.reads later.reads → later.faults ≡ now.faults → ReadsWell (turns + 1) input later
-reads_more turns input now later w r e = record { reads = counts-more turns 1 input.reads now.reads later.reads w.reads r; well = e ∙ w.well }
-
--- one piece more was read
-pub reads_after : (turns : ℕ) (input now later : SourceState) (read : List Text) (piece : Text) → length read ≡ turns → ReadsWell turns input now → Gives now piece later → ReadsWell (length (read ++ piece ∷ [])) input later
-reads_after turns input now later read piece e w g =
-    let size : turns + 1 ≡ length (read ++ piece ∷ []) = omega (arith, e, length-append read (piece ∷ [])) in
-    subst (λ n. ReadsWell n input later) size (reads_more turns input now later w g.reads g.well)
-
--- one read more failed
-pub to_fault : (turns made : ℕ) (input now later : SourceState) → made ≡ turns → ReadsWell turns input now → SourceFails now later → ReadsToFault made input later
-to_fault turns made input now later e w f = record {
-  reads = rw e (counts-more turns 1 input.reads now.reads later.reads w.reads f.reads);
-  failed = subst (λ n. Counts 1 n later.faults) w.well f.failed;
-}
-
--- a piece after which the input goes on has a byte
-pub some_byte : (now later : SourceState) (piece : Text) → Reads true now piece later → 0 < length piece
-some_byte now later [] r = let end : true ≡ false = r.ends.1 refl in absurd cc
-some_byte now later (byte ∷ bytes) r = omega arith
-
--- one piece more was read, and the input goes on
-pub goes_on-push : (read : List Text) (piece : Text) → GoesOn read → 0 < length piece → GoesOn (read ++ piece ∷ [])
-goes_on-push [] piece all some = (some, tt)
-goes_on-push (first ∷ others) piece all some = (all.0, goes_on-push others piece all.1 some)
-
--- the input went on before each read
-pub went_on : (read : List Text) (piece : Text) (before now : SourceState) → GoesOn read → now.faults ≡ before.faults → BeforeReads GoesOn (read ++ piece ∷ []) before now
-went_on read piece before now all well = (subst GoesOn (sym (all_but_last-push read piece)) all, λ f. absurd (f well))
-
--- and it went on after all pieces
-pub goes_on-few : (read : List Text) → GoesOn read → GoesOn (all_but_last read)
-goes_on-few read all = fewer (length read - 1) read all
-  where
-    fewer : (n : ℕ) (pieces : List Text) → GoesOn pieces → GoesOn (take n pieces)
-    fewer zero pieces all = tt
-    fewer (suc n) [] all = tt
-    fewer (suc n) (first ∷ others) all = (all.0, fewer n others all.1)
-
--- what an input and an output show
-abbrev pub shown : SourceState → SinkState → Devices
-shown input output = record { input = input; output = output }
 
 pub served_at_start : {A : Type 0} (answer : EventValue → Text) (session : Held A) (input : SourceState) (output : SinkState) → session ≡ opened session.answering → Served answer session input input output output session 0
 served_at_start answer session input output e = record {
@@ -224,9 +131,6 @@ answers_now : {A : Type 0} (answer : EventValue → Text) (session : Held A) (re
     → answers_of answer (joined (read ++ piece ∷ [])) ≡ with_texts sent (answers_of answer (session.pending ++ piece))
 answers_now answer session read piece sent g = rw (append-nil (joined (read ++ piece ∷ [])), append-nil (session.pending ++ piece)) at (all_answers answer session read piece [] sent g)
 
-pub none_left_after : (now later : Option Text) (piece : Text) → piece ≡ [] → now ≡ led_by piece later → NoneLeft now → NoneLeft later
-none_left_after now later piece e f h = subst NoneLeft (f ∙ ap (λ p. led_by p later) e ∙ led_by-nil later) h
-
 pub finished : {A : Type 0} (answer : EventValue → Text) (first session next : Held A) (input now later : SourceState) (output sink sink_later : SinkState) (turns : ℕ)
     → Served answer first input now output sink session turns → Turns answer false (at session now sink) (at next later sink_later) → AnswersInput answer (Ok tt) (shown input output) (shown later sink_later)
 finished answer first session next input now later output sink sink_later turns s t = record {
@@ -302,10 +206,6 @@ faulty_later answer session read true piece later sent fault g e none =
 faulty_later answer session read false piece later sent fault g e none =
     ap (λ text. answers_of answer (joined (read ++ piece ∷ []) ++ text)) (none refl) ∙ ap (answers_of answer) (append-nil (joined (read ++ piece ∷ [])))
     ∙ answers_now answer session read piece sent g ∙ ap (with_texts sent) (until_texts (due answer false session.pending piece) fault e)
-
--- no bytes are left if the input does not go on
-pub later_none : (more : Bool) (now later : SourceState) (piece rest : Text) → Reads more now piece later → later.left ≡ Some rest → more ≡ false → rest ≡ []
-later_none more now later piece rest r e f = rw e at (none_left_after now.left later.left piece (r.ends.0 f) r.gives.left (r.none_left f))
 
 stops_at_block : {A : Type 0} (answer : EventValue → Text) (session : Held A) (now later : SourceState) (read : List Text) (more : Bool) (piece : Text) (sent : List Text) (number : ℕ) (fault : BlockFault) (sink sink_later : SinkState)
     → Given answer (joined read) sent session → Reads more now piece later → Refuses (due answer more session.pending piece) session.answered number fault sink sink_later

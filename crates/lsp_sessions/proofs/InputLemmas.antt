@@ -11,7 +11,7 @@ use Rattle.engine_ends.proofs.Reported.{followed_by-nil}
 use Rattle.engine_sessions.specs.Inputs.{BeforeReads, GoesOn, ReadsWell, all_but_last, most_turns}
 use Rattle.engine_sessions.specs.Serves.{WritesOut}
 use Rattle.engine_sessions.specs.Turns.{Reads, joined}
-use Rattle.engine_sessions.proofs.Turns.{all_but_last-push, goes_on-few, goes_on-push, joined-push, led_by-nil, left_after, none_left_after, one_more, reads_after, reads_more, shown, some_byte, to_fault, went_on}
+use Rattle.engine_sessions.proofs.ReadPieces.{all_but_last-push, goes_on-few, goes_on-push, joined-push, led_by-nil, left_after, none_left_after, one_more, reads_after, reads_more, shown, some_byte, to_fault, went_on}
 use Rattle.lsp_sessions.specs.Servers.{Server, said_of}
 use Rattle.lsp_sessions.specs.Runs.{HasReplied}
 use Rattle.lsp_sessions.specs.Taking.{ExitsIn, GoesBy, Situation, StopsIn, StopsInReply, opened, said_by}

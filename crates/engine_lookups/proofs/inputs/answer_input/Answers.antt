@@ -1,7 +1,7 @@
 use Rattle.std.proofs.Common.{arith, ◌≡◌, ℕ, ◌≤◌, true, false, subst}
 use Rattle.std.proofs.lemmas.Result.{err_from_is_err_and}
 use Rattle.engine_sessions.specs.Inputs.{most_turns}
-use Rattle.engine_sessions.proofs.Turns.{shown}
+use Rattle.engine_sessions.proofs.ReadPieces.{shown}
 use Rattle.engine_lookups.specs.Inputs.{Turns}
 use Rattle.engine_lookups.specs.Outcomes.{answer_to}
 use Rattle.engine_lookups.proofs.InputLemmas.{AfterTurns, failed, finished, turns_at_start, turns_more, turns_open, used_up}

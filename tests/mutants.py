@@ -6,7 +6,7 @@ what the crates' own checks have kept, so only what an edit changes is proved ag
 Edits of different functions are tried in one check, in which each changed function has to be refused for its own body,
 not for one that it calls. An edit that was not refused that way, and one that changes more than bodies, is tried alone,
 as the gate tries those in must-fail/. Each edit is reported in a line, and the last line is `N refused, M not refused`;
-an edit that could not be tried counts as not refused.
+an edit that could not be tried, or that is refused without a reason in its crate, counts as not refused.
 usage: tests/mutants.py [CRATE..]    RT is the toolchain's command, rt by default"""
 
 import os
@@ -30,6 +30,10 @@ REFUSED = re.compile(r"fn (\S+): (?:not proved|no proof: expected answers)")
 
 # What is said of a proof file that names something that the edit removes.
 LOST_NAME = re.compile(r"has no field|is not in scope|has no `|was not admitted")
+
+# What the toolchain says of an edit that it tries alone and refuses for something in the crate. If it names nothing there,
+# the prover does not cover the changed code, or has no proof of what that calls, and no contract was tried.
+REFUSED_ALONE = re.compile(r"refused, as it must be.*: (?:note: )?(?:\./)?(?:src|specs|proofs)/")
 
 
 class Source:
@@ -214,7 +218,8 @@ class Crate:
             reported = [it.partition(label)[2] for it in lines if label in it]
             if not reported:
                 print(*lines, sep="\n")
-            self.report(mutant, *(reported or ["NOT TRIED"])[:1], bool(reported) and reported[0].startswith("refused,"))
+            found = (reported or ["NOT TRIED"])[0]
+            self.report(mutant, found, REFUSED_ALONE.match(found) is not None)
 
     def try_all(self, edits):
         mutants = [Mutant(it, self.source) for it in edits]

@@ -68,6 +68,11 @@ def verify(rules):
     return ["verify", "r.rules"], {"r.rules": rules}, ""
 
 
+def many_messages(form, count):
+    """40 lines of as many messages each, in a format."""
+    return ["verify", f"--format={form}", "r.rules"], {"r.rules": (",".join(['TAG+="b"'] * count) + "\n") * 40}, ""
+
+
 def checked_links(text):
     return ["verify", "--links", "a.link"], {"a.link": text}, ""
 
@@ -171,6 +176,13 @@ RULES = [
     # all links after one that is removed are moved up
     Case("links that are added and removed", 2_000,
          lambda n: events(each('SYMLINK+="l#"\n', n) + each('SYMLINK-="l#"\n', n)), 150),
+]
+
+FORMATS = [
+    *(Case(f"messages of each of 40 lines, {form}", 180, lambda n, form=form: many_messages(form, n))
+      for form in ("plain", "gcc", "github", "json", "human", "gitlab")),
+    # the characters before each place are counted
+    Case("messages of each of 40 lines, sarif", 180, lambda n: many_messages("sarif", n), 150),
 ]
 
 TOLD = [
@@ -287,7 +299,7 @@ def is_right(program, case):
 
 
 def main(program, word):
-    cases = [case for case in [*RENDERING, *RULES, *TOLD, *UDEV, *LINKS, *BLOCKS, *DATABASE] if word in case.name]
+    cases = [case for case in [*RENDERING, *RULES, *FORMATS, *TOLD, *UDEV, *LINKS, *BLOCKS, *DATABASE] if word in case.name]
     wrong = [case.name for case in cases if not is_right(program, case)]
     print(f"{len(cases) - len(wrong)} of {len(cases)} expensive inputs take no more than about ten times as long for ten times as much")
     return bool(wrong)

@@ -5,8 +5,8 @@ _devdry_capture() {
     case ${COMP_WORDS[COMP_CWORD - 1]}:$word in
         --action:*) offered=(-W 'add remove change move online offline bind unbind') ;;
         --sysfs:*) offered=(-d) ;;
-        --from:* | *:[!-]* | *:) offered=(-f) ;;
-        *) offered=(-W '--all --from --action --kernel --answers --walk --sysfs -h --help -V --version') ;;
+        --from:* | --answer-questions:* | *:[!-]* | *:) offered=(-f) ;;
+        *) offered=(-W '--all --from --answer-questions --action --kernel --answers --walk --sysfs -h --help -V --version') ;;
     esac
     if [ "${offered[0]}" != -W ]; then compopt -o filenames 2> /dev/null; fi
     mapfile -t COMPREPLY < <(compgen "${offered[@]}" -- "$word")

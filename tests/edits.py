@@ -53,7 +53,8 @@ def unlawful(edit):
     for law in laws:
         module, _, name = law.partition("::")
         path = edit.parent.parent / "src" / f"{module}.rt"
-        if not path.is_file() or f"pub fn {name}()" not in path.read_text(encoding="utf-8"):
+        text = path.read_text(encoding="utf-8") if path.is_file() else ""
+        if f"pub fn {name}()" not in text and f"pub fn {name}<" not in text:
             yield f"{edit}: there is no law {law}"
     if len(laws) != 1:
         yield f"{edit}: it names {len(laws)} laws"

@@ -29,4 +29,12 @@ goes_well() {
     if said=$("$@" 2>&1); then ok "$case"; else not_ok "$case" "$said"; fi
 }
 
+# told_by COMMAND..: the command reports its own cases, one in a line. If it ends in another status than 0, as with a traceback,
+# that is a case, too, and has failed.
+told_by() {
+    local status=0
+    PYTHONDONTWRITEBYTECODE=1 "$@" || status=$?
+    [ "$status" = 0 ] || not_ok "it ends in status 0: $(basename "$2")" "$status"
+}
+
 has() { command -v "$1" > /dev/null; }

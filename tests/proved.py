@@ -5,8 +5,9 @@ usage: tests/proved.py [--write]    with --write, the list of laws in docs/prove
 
 - Each `crate::function` or `crate::Type::function` in them is a function of that crate, of that type or trait, and has a
   contract. Names in brackets after it, (`one`, `two`), are clauses of that contract.
-- docs/proved.md lists each law with the first sentence above it. A law is a public function with an empty body and without
-  parameters in a crate of crates.txt; examples, which begin with `some_`, are not listed.
+- docs/proved.md lists each law with the first sentence above it. A law is a public function of a crate of crates.txt that
+  has clauses, no result, and an empty body or one that only calls other laws; examples, which begin with `some_`, are not listed.
+- The crates of the kit that docs/proved.md names as trusted are those that crates.txt names.
 - Each block of code in it after ```text PATH is a part of the file PATH, unchanged.
 
 Prints a line `ok CASE` for each of these, or `not ok CASE` with what is missing.
@@ -19,6 +20,8 @@ TOP = Path(__file__).resolve().parent.parent
 # What stands directly before and after the list of laws.
 FIRST = "what it says, in the words above its contract.\n\n"
 LAST = "## When something is refused"
+# A law: its name, parameters that it may have, its clauses, and no body but calls of other laws.
+LAW = re.compile(r"^pub fn (\w+)(?:<[^>]*>)?\([^)]*\)\n(?=(?: +//.*\n)* +ensures)(?: +.*\n)*(?:\{\}|\{\n(?:    \w+\(\);\n)+\})$", re.M)
 HEAD = re.compile(r"^(?:pub )?(?:impl(?:<[^>]*>)? (?:[\w]+(?:<[^{]*?>)? for )?(\w+)|trait (\w+))|^( *)(?:pub(?:\(crate\))? )?fn (\w+)", re.M)
 
 
@@ -61,25 +64,22 @@ def named_functions(page, crates):
     return wrong, names
 
 
+def sentence_above(lines):
+    """The first sentence of the comment that these lines end in, with nothing but attributes behind it."""
+    said = []
+    for line in reversed(lines):
+        if line.startswith("///"):
+            said.insert(0, line[3:].strip())
+        elif said or not (line.startswith(("#[", ")", " ")) or line.endswith(",")):
+            break
+    return re.match(r"(?:The law of [^.:]*\. +)?(.*?\.)(?: |$)", " ".join(said))[1]
+
+
 def laws_in(text):
     """The laws of a source text: name and first sentence of each."""
-    said, name, promises = [], None, False
-    for line in text.splitlines():
-        bare = line.strip()
-        if name is None:
-            head = re.match(r"pub fn (\w+)(?:<[^>]*>)?\(\)", line)
-            if bare.startswith("///"):
-                said.append(bare[3:].strip())
-            elif head:
-                name, promises = head[1], False
-            elif not (said and bare.startswith(("#[", ")")) or bare.endswith(",")):
-                said = []
-        elif bare.startswith("ensures"):
-            promises = True
-        elif bare in ("{}", "{"):
-            if bare == "{}" and promises and not name.startswith("some_"):
-                yield name, re.match(r"(?:The law of [^.:]*\. +)?(.*?\.)(?: |$)", " ".join(said))[1]
-            said, name = [], None
+    for law in LAW.finditer(text):
+        if not law[1].startswith("some_"):
+            yield law[1], sentence_above(text[:law.start()].splitlines())
 
 
 def listed_laws(crates):
@@ -115,6 +115,11 @@ def main():
     well &= report("docs/proved.md quotes the current source", [
         f"{path} does not contain this text:\n{text}" for path, text in quoted
         if not (TOP / path).is_file() or text not in (TOP / path).read_text(encoding="utf-8")] or ([] if quoted else ["no source is quoted"]))
+    text = (TOP / "crates.txt").read_text(encoding="utf-8")
+    used = {it for line in text.splitlines() if not line.startswith("#") for it in line.split(":")[1].split()} - set(crates)
+    named = re.search(r"^- The statements of the kit's crates (.*)\.$", page, re.M)
+    unlike = used ^ set(re.findall(r"`(\w+)`", named[1] if named else ""))
+    well &= report("docs/proved.md names the crates of the kit that crates.txt names", sorted(unlike))
     return well
 
 

@@ -1,23 +1,27 @@
 #!/usr/bin/env python3
 """Runs the program while its system refuses what it asks for.
 
-usage: tests/refusals.py PROGRAM LIBRARY
+usage: tests/refusals.py PROGRAM LIBRARY [SERVER]
 
-LIBRARY is tests/refusing.c, built. Each row is run with its Nth growth of memory refused, for N = 1, 2, .. until a run
-meets no refusal; the first growths are those for its words. A run that met one has to end in status 4, with the beginning
-of the row's output, and with the beginning of the row's messages followed by the line about memory. Each run is repeated
-with all growths from the Nth on refused, to show that what a failed run still does takes no memory.
+LIBRARY is tests/refusing.c, built. SERVER is the language server, which has a row of its own. Each row is run with its Nth
+growth of memory refused, for N = 1, 2, .. until a run meets no refusal; the first growths are those for its words. A run that
+met one has to end in status 4, with the beginning of the row's output, and with the beginning of the row's messages followed
+by the line about memory. Each run is repeated with all growths from the Nth on refused, to show that what a failed run still
+does takes no memory.
 
 A list that is collected asks for more room than it needs; if that is refused, it asks at once for just what it needs. A
 run that continues that way has to do everything that the row does, and is repeated with that second growth refused, too,
 which has to end in status 4.
 
 The same is done with the Nth call that opens, looks at, lists, reads or writes, alone and with all calls from there on:
-status 3, the beginning of the output, and the beginning of the messages with a line about what failed, as far as the error
-output accepts it. A name in a folder that can't be looked at is read as a file. If the system lacks memory for such a
+status 3, the beginning of the output, and the beginning of the messages with the line on what failed, the read or the write,
+as far as the error output accepts it. A name in a folder that can't be looked at is read as a file. If the system lacks memory for such a
 call, the status is 4, except for the input and the outputs, which have failed. A run with `--all`, and `files`, go on where
 a file or a folder can't be read: what they say then begins otherwise, and a line says what can't be read, and why; but a
 folder below lib, whose files are only counted, then has none.
+
+A signal may interrupt a call, which is then made again: the Nth call and the two after it are interrupted, which changes
+nothing.
 
 Last, each read and write moves a single byte, which changes nothing; and in one row of each command the Nth of these calls
 fails, for N = 1, 2, .., so that files, the input and the outputs fail at each byte.
@@ -26,6 +30,7 @@ Prints for each row a line `ok ROW`, with how many growths were refused, how man
 and how many at single bytes; or `not ok ROW` with the first run that does otherwise.
 """
 import errno
+import json
 import os
 import re
 import subprocess
@@ -36,7 +41,8 @@ from concurrent.futures import ThreadPoolExecutor
 from tables.kinds.row import Link
 
 OUT_OF_MEMORY = b"devdry: out of memory\n"
-FAILED = re.compile(rb"devdry: (write failed|read failed|cannot read [^\n]*)\n$")
+FAILED = re.compile(rb"devdry: cannot read [^\n]*\n$")
+FAILED_IN = {"read": re.compile(rb"devdry: (read failed|cannot read [^\n]*)\n$"), "write": re.compile(rb"devdry: write failed\n$")}
 STREAM_FAILED = re.compile(rb"devdry: (write|read) failed\n$")
 UNREAD = re.compile(rb"^devdry: cannot read [^\n]*: [^\n]*\n", re.M)
 ALL = 2**63
@@ -509,8 +515,8 @@ def check_failed(which, done, row, call):
     if row.goes_on and call != "write" and UNREAD.search(done.stderr):
         return
     check(which, done, row.output.startswith(done.stdout), "the output is not the beginning of the row's")
-    line = FAILED.search(done.stderr)
-    check(which, done, line or call == "write", "no message about the failure")
+    line = FAILED_IN.get(call, FAILED).search(done.stderr)
+    check(which, done, line or call == "write", "no message about the failure, or another one")
     reported = done.stderr[:line.start()] if line else done.stderr
     check(which, done, (row.messages + row.line).startswith(reported), "the messages are not the beginning of the row's")
 
@@ -558,6 +564,8 @@ def refuse_calls(runs, row):
             check_failed(f"call {call} ({met}) without memory", done, row, met)
         else:
             check_refused(f"call {call} ({met}) without memory", done, row)
+        done, _met = runs.without_calls(call, call + 2, errno.EINTR)
+        check(f"call {call} ({met}) interrupted", done, is_whole(done, row), "the result is not that of the row")
         call += 1
 
 
@@ -608,11 +616,28 @@ def tried(program, library, row):
     return f"ok {row.name} ({growths} growths, {ahead} of them ahead of need, {calls} calls" + (f", {moved} at single bytes)" if moved else ")")
 
 
-def main(program, library):
+def frames(*messages):
+    """Messages of the language server's protocol, each with its header part."""
+    contents = [json.dumps({"jsonrpc": "2.0", **message}) for message in messages]
+    return "".join(f"Content-Length: {len(content)}\r\n\r\n{content}" for content in contents)
+
+
+def session():
+    """A client that opens a document, changes it and leaves."""
+    document = {"uri": "file:///a.rules"}
+    return Row(
+        "a client of the language server", ["--stdio"], {},
+        frames({"id": 1, "method": "initialize", "params": {}}, {"method": "textDocument/didOpen", "params": {"textDocument": {**document, "text": "A"}}},
+               {"method": "textDocument/didChange", "params": {"textDocument": document, "contentChanges": [{"text": ""}]}},
+               {"id": 2, "method": "shutdown"}, {"method": "exit"}), output=None, each_byte=True)
+
+
+def main(program, library, server=None):
+    runs = [(program, row) for row in ROWS] + ([(server, session())] if server else [])
     with ThreadPoolExecutor(os.cpu_count()) as pool:
-        for said in pool.map(lambda row: tried(program, library, row), ROWS):
+        for said in pool.map(lambda run: tried(run[0], library, run[1]), runs):
             print(said)
 
 
 if __name__ == "__main__":
-    main(os.path.realpath(sys.argv[1]), os.path.realpath(sys.argv[2]))
+    main(*map(os.path.realpath, sys.argv[1:]))

@@ -1,7 +1,9 @@
 /* Refuses what a program asks of its system. Loaded before the C library (LD_PRELOAD), it counts the growths of memory
  * that the program's own code asks for, from 1 on, and refuses those from GROWTHS_FROM to GROWTHS_TO; and also its calls
  * that open, look at, list, read and write, from CALLS_FROM to CALLS_TO, with the error number CALLS_FAULT. The name of
- * the first call that it refuses is written to the file REFUSED. If SHORT is set, each read and write moves one byte.
+ * the first call that it refuses is written to the file REFUSED. If SHORT is set, each read and write moves one byte. Before
+ * the call SWAP_AT, and before the call SWAP_BACK_AT, the paths SWAP_ONE and SWAP_OTHER are exchanged. The path of each
+ * file that is opened is added to the file OPENED, a line for each.
  * What the C library does for itself is neither counted nor refused: a call counts if it returns into the program.
  * Built by: cc -shared -fPIC -O2 -o refusing.so refusing.c -ldl */
 #define _GNU_SOURCE
@@ -12,6 +14,7 @@
 #include <link.h>
 #include <stdarg.h>
 #include <stdint.h>
+#include <stdio.h>
 #include <stdlib.h>
 #include <string.h>
 #include <sys/stat.h>
@@ -23,6 +26,7 @@ struct kind {
 };
 static struct kind growths = {.fault = ENOMEM}, calls;
 static int moves_a_byte;
+static unsigned long swap_at, swap_back_at;
 static uintptr_t begin, end;
 
 /* The first object that is reported is the program. */
@@ -47,25 +51,46 @@ __attribute__((constructor)) static void prepare(void) {
     growths.from = number("GROWTHS_FROM"), growths.to = number("GROWTHS_TO");
     calls.from = number("CALLS_FROM"), calls.to = number("CALLS_TO"), calls.fault = number("CALLS_FAULT");
     moves_a_byte = getenv("SHORT") != NULL;
+    swap_at = number("SWAP_AT"), swap_back_at = number("SWAP_BACK_AT");
     dl_iterate_phdr(note_program, NULL);
 }
 
-static void tell(const char *name) {
-    const char *path = getenv("REFUSED");
-    int file = path ? open(path, O_WRONLY | O_CREAT, 0600) : -1;
+/* Adds a text to the file that a variable names. */
+static void add(const char *variable, const char *text) {
+    const char *path = getenv(variable);
+    int file = path ? open(path, O_WRONLY | O_CREAT | O_APPEND, 0600) : -1;
     if (file < 0) return;
     /* (a byte in each call, as SHORT may have it) */
-    for (; *name; name++)
-        if (write(file, name, 1) < 0) abort();
+    for (; *text; text++)
+        if (write(file, text, 1) < 0) abort();
     close(file);
 }
 
-static int is_refused(struct kind *kind, const char *name, void *caller) {
+static int is_of_program(void *caller) {
     uintptr_t at = (uintptr_t)caller;
-    if (at < begin || at >= end) return 0;
+    return at >= begin && at < end;
+}
+
+static void note_opened(const char *path, void *caller) {
+    if (!is_of_program(caller)) return;
+    add("OPENED", path);
+    add("OPENED", "\n");
+}
+
+static void swap_at_call(unsigned long call, const char *name) {
+    if (call != swap_at && call != swap_back_at) return;
+    int fault = errno;
+    if (renameat2(AT_FDCWD, getenv("SWAP_ONE"), AT_FDCWD, getenv("SWAP_OTHER"), RENAME_EXCHANGE)) abort();
+    if (call == swap_at) add("REFUSED", name);
+    errno = fault;
+}
+
+static int is_refused(struct kind *kind, const char *name, void *caller) {
+    if (!is_of_program(caller)) return 0;
     kind->seen++;
+    if (kind == &calls) swap_at_call(kind->seen, name);
     if (kind->seen < kind->from || kind->seen > kind->to) return 0;
-    if (kind->seen == kind->from) tell(name);
+    if (kind->seen == kind->from) add("REFUSED", name);
     errno = kind->fault;
     return 1;
 }
@@ -114,12 +139,14 @@ int posix_memalign(void **block, size_t alignment, size_t size) {
 int open(const char *path, int flags, ...) {
     REAL(open);
     MODE(flags);
+    note_opened(path, __builtin_return_address(0));
     return REFUSED(calls, "open") ? -1 : real(path, flags, mode);
 }
 
 int openat(int folder, const char *path, int flags, ...) {
     REAL(openat);
     MODE(flags);
+    note_opened(path, __builtin_return_address(0));
     return REFUSED(calls, "open") ? -1 : real(folder, path, flags, mode);
 }
 

@@ -179,7 +179,7 @@ esac
 END
 chmod +x "$work/own/udevadm"
 # (udevadm is asked only about the real /sys: here the tree takes its place)
-sed "s|sysfs=/sys udevadm|sysfs=$sys udevadm|" "$capture" > "$work/own/capture" && cp "$capture.awk" "$work/own"
+sed "s|sysfs=/sys udevadm|sysfs=$sys udevadm|" "$capture" > "$work/own/capture" && cp "$capture"*.awk "$work/own"
 # (test_capture_machine.sh has the constants of the machine)
 own() { PATH=$work/own:$PATH sh "$work/own/capture" "$@" | grep -v '^K: [a-z]*='; }
 same "a network card with what udev has stored" "${of_card%%"$of_pci_card"}E: DEVPATH=$card/net/eth0
@@ -216,20 +216,26 @@ A: ended=ab
 A: filled=ab
 A: q/empty=
 A: subsystem=platform"
-same "attributes with NUL bytes" "$of_nul" "$("$capture" --sysfs "$sys" "$sys$nul" | grep '^A' | LC_ALL=C sort)"
+same "attributes with NUL bytes" "$of_nul" "$("$capture" --sysfs "$sys" "$sys$nul" 2> /dev/null | grep '^A' | LC_ALL=C sort)"
 same "attributes with NUL bytes, with all devices" "$of_nul" \
     "$("$capture" --sysfs "$sys" --all 2> /dev/null | awk -v RS='' -v path="P: $nul" 'index($0, path "\n")' | grep '^A' | LC_ALL=C sort)"
 for shell in dash 'bash --posix' 'busybox sh'; do
     if has "${shell%% *}"; then
         # shellcheck disable=SC2086
-        same "attributes with NUL bytes by $shell" "$of_nul" "$($shell "$capture" --sysfs "$sys" "$sys$nul" | grep '^A' | LC_ALL=C sort)"
+        same "attributes with NUL bytes by $shell" "$of_nul" "$($shell "$capture" --sysfs "$sys" "$sys$nul" 2> /dev/null | grep '^A' | LC_ALL=C sort)"
     fi
 done
 same "attributes with NUL bytes, as keys" 'ATTR{a:2}=="ab"
 ATTR{cut}=="ab"
 ATTR{ended}=="ab"
 ATTR{filled}=="ab"
-ATTR{q/empty}==""' "$("$capture" --walk --sysfs "$sys" "$sys$nul" | grep '^ATTR' | LC_ALL=C sort)"
+ATTR{q/empty}==""' "$("$capture" --walk --sysfs "$sys" "$sys$nul" 2> /dev/null | grep '^ATTR' | LC_ALL=C sort)"
+device $nul/a=b platform - && printf 'ab\000cd' > "$sys$nul/a=b/cut"
+same "an attribute with NUL bytes of a device with = in its path" "P: $nul/a=b
+A: cut=ab
+P: $nul" "$("$capture" --sysfs "$sys" "$sys$nul/a=b" 2> /dev/null | sed -n '/^P: .*nul/p; /^A: a=\|^A: cut/p' | head -n 3)"
+same "it is no attribute of the device above" "" \
+    "$("$capture" --sysfs "$sys" "$sys$nul" "$sys$nul/a=b" 2> /dev/null | grep '^A: a=')"
 rm -r "$sys$nul"
 
 # Devices by their names: those of classes, then those of buses.
@@ -293,9 +299,10 @@ same "no device" "1
 devdry-capture: $sys/class: no device" "$(said=$("$capture" --sysfs "$sys" "$sys/class" 2>&1); printf '%s\n%s' $? "$said")"
 
 # A file that is not a record, one that can't be read, and a tree without a device.
-echo "looking at device '/devices/x':" > "$work/walk"
+echo "device '/devices/x'" > "$work/text"
 same "--from of a file that is not a record" "1
-devdry-capture: $work/walk: it has no device" "$(ends "$capture" --from "$work/walk")"
+devdry-capture: $work/text:1: no line of a record
+devdry-capture: $work/text: it has no device" "$(ends "$capture" --from "$work/text")"
 same "--from of an empty input" "1
 devdry-capture: -: it has no device" "$(ends "$capture" --from - < /dev/null)"
 same "--from of a folder" 1 "$(ends "$capture" --from "$work" | head -n 1)"

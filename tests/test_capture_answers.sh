@@ -240,7 +240,7 @@ env ID_V4L_VERSION=2" "$(imported /devices/pci0/usb1/1-1/1-1:1.0/video4linux/vid
 # A copy of the script in which the tree takes the place of /sys, with an udevadm and an ethtool of our own.
 mkdir -p "$work/own"
 sed "s|sysfs=/sys udevadm|sysfs=$sys udevadm|; s|=/proc/cmdline|=$work/none|" "$capture" > "$work/own/capture"
-cp "$capture.awk" "$work/own"
+cp "$capture"*.awk "$work/own"
 printf '#!/bin/sh\nexit 1\n' > "$work/own/uname"
 # shellcheck disable=SC2016
 printf '#!/bin/sh\ncase $2 in eth0) printf "driver: e1000e\\nversion: 6\\n" ;; *) echo "no" >&2; exit 71 ;; esac\n' > "$work/own/ethtool"

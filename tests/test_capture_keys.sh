@@ -89,7 +89,7 @@ met() {
     local walk block
     walk=$("$capture" --walk --sysfs "$sys" "$sys$1" 2> /dev/null)
     block=$("$capture" --sysfs "$sys" "$sys$1" 2> /dev/null)
-    "$program" verify --no-summary /dev/stdin <<< "$walk" 2>&1
+    "$program" verify --no-summary - <<< "$walk" 2>&1
     awk '/^# \// { own = $2; sub(/.*\//, "", own); gsub(/!/, "/", own); next }
         /^#/ || !NF { next }
         { print $0 ", KERNELS==\"" own "\", ENV{K" ++n "}=\"$id\"" > rules; print "env K" n "=" own > wanted }

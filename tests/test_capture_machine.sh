@@ -10,7 +10,7 @@ set -uo pipefail
 # `systemd-detect-virt` say what the files below `machine` hold, and fail without one.
 mkdir -p "$work/own" "$work/machine"
 sed "s|sysfs=/sys udevadm|sysfs=$sys udevadm|; s|=/proc/cmdline|=$work/machine/cmdline|" "$capture" > "$work/own/capture"
-cp "$capture.awk" "$work/own"
+cp "$capture"*.awk "$work/own"
 printf '#!/bin/sh\ncat "%s/machine/uname"\n' "$work" > "$work/own/uname"
 printf '#!/bin/sh\nexit 1\n' > "$work/own/udevadm"
 # shellcheck disable=SC2016

@@ -212,3 +212,73 @@ answer() {
 same "--kernel: a removed link and a removed property are shown" "< link net/first
 < env ID_NET_NAME=lan0" "$(diff <(answer old --kernel) <(answer new --kernel) | grep '^[<>]')"
 same "without --kernel: a removed link and a removed property are not shown" "" "$(diff <(answer old) <(answer new))"
+
+# Lines of a record have capital letters; what is none is said, the first few with their numbers. Those that have the letters of
+# the script itself are such lines, too.
+same "lines that are none of a record" "P: /devices/a
+A: kept=1
+E: SUBSYSTEM=net
+devdry-capture: $work/strange:2: no line of a record
+devdry-capture: $work/strange:3: no line of a record
+devdry-capture: $work/strange:4: no line of a record
+devdry-capture: $work/strange: and 11 more" "$(
+    {
+        printf 'P: /devices/a\n'
+        for letter in a c d e f k m n w x z; do printf '%s: password=x\n' "$letter"; done
+        printf 'f:P: /devices/b\nno line\n /devices/c\nA: kept=1\n\nE: SUBSYSTEM=net\n'
+    } > "$work/strange"
+    "$capture" --from "$work/strange" 2> "$work/said" | sed '/^C:/d; /^$/d; /^U:/d'
+    cat "$work/said"
+)"
+same "their numbers are those of the file, also with devices that are named" "devdry-capture: -:3: no line of a record" \
+    "$(printf 'P: /devices/a\n\nw: /devices/b\nP: /devices/b\n' | "$capture" --from - /devices/a a 2>&1 > /dev/null)"
+same "three of them" "devdry-capture: -:1: no line of a record
+devdry-capture: -:2: no line of a record
+devdry-capture: -:4: no line of a record" "$(printf 'a\nb\nP: /devices/a\nc\n' | "$capture" --from - 2>&1 > /dev/null)"
+same "a name with a backslash" "devdry-capture: $work/a\\nb:1: no line of a record
+devdry-capture: $work/a\\nb: it has no device" "$(echo x > "$work/a\\nb"; "$capture" --from "$work/a\\nb" 2>&1)"
+same "no other letter than those of a record is printed" "C: add
+P: /devices/a
+E: A=b" "$(printf 'P: /devices/a\nC: x\nK: x=y\nG: t\nB: b=c\nQ: q\nR: 0\nO: o\nX: x\nE: A=b\n' | "$capture" --from - 2> /dev/null)"
+
+# Texts that have a NUL byte end there.
+nul_record() {
+    printf 'P: /devices/a\n'
+    printf 'N: sda\000x\nE: SUBSYSTEM=net\000block\nE: EMPTY=\000x\nE: A\000=b\nS: l\000\000m\n\000E: B=c\n'
+    printf 'A: octal=ab\\000cd\nA: first=\\000\nA: line=ab\\n\\000cd\\n\nA: raw=ab\000cd\nA: hidden=a\\001b\\000c\n'
+}
+of_nul="P: /devices/a
+U: net
+N: sda
+A: octal=ab
+A: first=
+A: line=ab
+A: raw=ab
+E: SUBSYSTEM=net
+E: EMPTY=
+S: l"
+for awk in awk mawk gawk 'busybox awk' original-awk; do
+    if has "${awk%% *}"; then
+        mkdir -p "$work/bin" && printf '#!/bin/sh\nexec %s "$@"\n' "$(command -v "${awk%% *}")${awk#"${awk%% *}"}" > "$work/bin/awk"
+        chmod +x "$work/bin/awk"
+        same "NUL bytes, by $awk" "$of_nul" "$(nul_record | PATH=$work/bin:$PATH "$capture" --from - 2> /dev/null | grep -v ^C)"
+        same "strange lines, by $awk" "$("$capture" --from "$work/strange" 2>&1 > /dev/null)" \
+            "$(PATH=$work/bin:$PATH "$capture" --from "$work/strange" 2>&1 > /dev/null)"
+    fi
+done
+for shell in dash 'bash --posix' 'busybox sh'; do
+    # shellcheck disable=SC2086
+    if has "${shell%% *}"; then same "NUL bytes, by $shell" "$of_nul" "$(nul_record | $shell "$capture" --from - 2> /dev/null | grep -v ^C)"; fi
+done
+: > "$work/none.rules"
+# taken: whether devdry events takes the blocks
+taken() { "$program" events -r "$work/none" "$work/none.rules" > /dev/null 2>&1; echo $?; }
+same "a record with NUL bytes gives a block that events takes" 0 "$(nul_record | "$capture" --from - 2> /dev/null | taken)"
+same "a record of bytes at random" 0 "$({
+    head -c 200000 /dev/urandom
+    printf '\nP: /devices/a\nE: A=b\n'
+    head -c 20000 /dev/urandom | sed 's/^/E: A=/'
+    printf '\n'
+    head -c 20000 /dev/urandom | sed 's/^/P: \/devices\//'
+} | "$capture" --from - 2> "$work/said" | taken)"
+same "what is said of it can be shown" 0 "$(LC_ALL=C grep -acP '[\x00-\x08\x0b-\x1f\x7f]|\xc2[\x80-\x9f]' "$work/said")"

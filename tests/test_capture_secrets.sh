@@ -28,6 +28,7 @@ device $controller/ng5n1 nvme-generic - DEVNAME=ng5n1
 dock=$pci/0000:00:0d.0/domain0/0-0/0-1
 device $dock thunderbolt - DEVTYPE=thunderbolt_device
 device $dock/0-1.1 thunderbolt - DEVTYPE=thunderbolt_service
+device $dock/0-1.2 thunderbolt - DEVTYPE=thunderbolt_service
 dmi=/devices/virtual/dmi/id
 device $dmi dmi -
 firmware=/devices/virtual/firmware-attributes/bios
@@ -52,16 +53,20 @@ by_name=(
     "$firmware "{authentication/Admin/current_password,passphrase,my_secret,secrets/one}
     "$dock key"
     "$dmi "{product_uuid,product_serial,board_serial,chassis_serial}
+    "$card "{Password,SECRET,PassPhrase,passwd,pwd,bios_PWD,psk,wpa_psk,WpaPsk,api_token,Token,private,is_private,credentials,config_info}
+    "$card/net/eth0 "{key,pin,PIN,Key,sub/key,ltk,wep_key,wepkey,tls_key,hostkey,link_key,tokens/0000_value,Private/one,DHCHAP_x,UserName}
+    "$dock/0-1.1 "{pin,psk}
 )
 # What is in no block, as nobody but root may read it: DEVICE NAME MODE.
 by_mode=(
-    "$card private 600"
-    "$card private_4 400"
-    "$card private_2 200"
-    "$card deep/er/private 600"
+    "$card closed 600"
+    "$card closed_4 400"
+    "$card closed_2 200"
+    "$card deep/er/closed 600"
     "$card serial 600"
     "$card/net/eth0 label 600"
     "$dmi idVendor 600"
+    "$dock/0-1.2 key 600"
     "$host/target0:0:0 fc_transport/one/node_name 600"
 )
 # What is printed: what a builtin looks at, even if only root may read it, and what others may read.
@@ -84,7 +89,8 @@ printed=(
     "$dock unique_id 444"
     "$dock/0-1.1 key 444"
     "$dmi modalias 444"
-    "$card "{key,product_serial}" 444"
+    "$card product_serial 444"
+    "$card "{keys,pins/one,pinctrl,input_key,key_code,monkey,keyboard/one,spin,username_of/one}" 444"
     "$card for_a_group 640"
     "$card for_others 604"
     "$card deep/er/open 644"
@@ -136,8 +142,8 @@ declare -A found=(
     [kernel]=$(by_options --kernel | values)
     [walk]=$(by_options --walk | values)
     [all]=$(values <<< "$all")
-    [record]=$("$capture" --from "$work/record" | values)
-    [walk_of_record]=$("$capture" --walk --from "$work/record" | values)
+    [record]=$("$capture" --from "$work/record" 2> /dev/null | values)
+    [walk_of_record]=$("$capture" --walk --from "$work/record" 2> /dev/null | values)
 )
 # ways VALUE WAY..: those that print the value
 ways() {
@@ -160,11 +166,11 @@ same "the disk's session as a block has it" "P: $session
 A: iscsi_session/session1/targetname=open-000
 A: connection1:0/iscsi_connection/connection1:0/persistent_address=open-001
 A: connection1:0/iscsi_connection/connection1:0/persistent_port=open-002" \
-    "$("$capture" --sysfs "$sys" "$sys$lun/block/sdc" | sed -n "/^P: ${session//\//\\/}\$/,\$p")"
+    "$("$capture" --sysfs "$sys" "$sys$lun/block/sdc" 2> /dev/null | sed -n "/^P: ${session//\//\\/}\$/,\$p")"
 same "the session itself" "A: initiatorname=own-001" \
-    "$("$capture" --sysfs "$sys" "$sys$session/iscsi_session/session1" | grep own-)"
+    "$("$capture" --sysfs "$sys" "$sys$session/iscsi_session/session1" 2> /dev/null | grep own-)"
 same "the connection itself" "A: address=own-002" \
-    "$("$capture" --sysfs "$sys" "$sys$session/connection1:0/iscsi_connection/connection1:0" | grep own-)"
+    "$("$capture" --sysfs "$sys" "$sys$session/connection1:0/iscsi_connection/connection1:0" 2> /dev/null | grep own-)"
 
 for shell in dash 'bash --posix' 'busybox sh'; do
     if has "${shell%% *}"; then
@@ -182,9 +188,68 @@ done
 # Folders whose names have blanks and signs of patterns.
 odd="/devices/platform/a b*[c]"
 device "$odd" leds -
-write odd 1 "$odd" 'x y/private' 600
+write odd 1 "$odd" 'x y/closed' 600
 write odd 2 "$odd" 'x y/open' 644
-same "folders with blanks and signs" "A: x y/open=odd-002" "$("$capture" --sysfs "$sys" "$sys$odd" | grep odd-)"
+same "folders with blanks and signs" "A: x y/open=odd-002" "$("$capture" --sysfs "$sys" "$sys$odd" 2> /dev/null | grep odd-)"
+
+# Properties, by the same names: those of the kernel, those that udev has stored, and those of answers.
+gone=(WIFI_PASSWORD Wifi_Passphrase MY_SECRET ROOTPWD WPA_PSK API_TOKEN PRIVATE_DATA CREDENTIAL KEY PIN key WEP_KEY username ID_FS_PASSWORD
+    .PASSWORD ID_SECURITY_TOKEN_2 ID_API_TOKEN)
+kept=(ID_SECURITY_TOKEN ID_FIDO_TOKEN ID_INPUT_KEY ID_INPUT_KEYBOARD SYSTEMD_USER_WANTS KEYBOARD_KEY_70031 ID_FS_UUID MONKEY KEYS)
+device /devices/properties leds - "${gone[@]/%/=gone}" "${kept[@]/%/=kept}"
+{
+    printf 'P: /devices/properties\nE: SUBSYSTEM=block\nE: DEVTYPE=disk\nN: sda\nE: USEC_INITIALIZED=1\n'
+    printf 'E: %s=gone\n' "${gone[@]}"
+    printf 'E: %s=kept\n' "${kept[@]}"
+} > "$work/properties"
+# names_of: the names of those that are printed
+names_of() { sed -n 's/^\(R: 0\|[EBO]:\) \([^=]*\)=kept$/\2/p' | LC_ALL=C sort -u | tr '\n' ' '; }
+of_kept=$(printf '%s\n' "${kept[@]}" | LC_ALL=C sort | tr '\n' ' ')
+for options in '' --kernel --all; do
+    folder=$sys/devices/properties
+    if [ "$options" = --all ]; then folder=''; fi
+    # shellcheck disable=SC2086
+    said=$("$capture" $options --sysfs "$sys" $folder 2> /dev/null)
+    same "properties that are secrets${options:+, $options}" 0 "$(grep -c '=gone' <<< "$said")"
+    same "properties that are none${options:+, $options}" "$of_kept" "$(names_of <<< "$said")"
+done
+for options in '' --answers '--kernel --answers'; do
+    # shellcheck disable=SC2086
+    said=$("$capture" $options --from "$work/properties" 2> /dev/null)
+    same "properties of a record that are secrets${options:+, $options}" 0 "$(grep -c '=gone' <<< "$said")"
+    same "properties of a record that are none${options:+, $options}" "$of_kept" "$(names_of <<< "$said")"
+done
+same "an answer without a secret" "Q: builtin blkid
+R: 0 ID_FS_UUID=kept" "$("$capture" --answers --from "$work/properties" 2> /dev/null | grep '^[QRO]')"
+device /devices/keyboard input - KEY=10000 EV=3 PIN=gone
+same "the keys of an input device" "E: KEY=10000
+E: EV=3" "$("$capture" --sysfs "$sys" "$sys/devices/keyboard" 2> /dev/null | grep ^E)"
+same "the keys of an input device in a record" "E: KEY=10000" \
+    "$(printf 'P: /devices/k\nE: KEY=10000\nE: PIN=gone\nE: SUBSYSTEM=input\n' | "$capture" --from - 2> /dev/null | grep '^E: [KP]')"
+same "an attribute of a record, written with escapes" "" \
+    "$(printf 'P: /devices/k\nA: password=a\\n\nA: PIN=\\061\n' | "$capture" --from - 2> /dev/null | grep ^A)"
+
+# What is left out is said once, of what is printed.
+said() { { "$capture" "$@" > /dev/null; } 2>&1; }
+same "secrets are counted" "devdry-capture: ${#gone[@]} lines for root alone or secret by name are left out" \
+    "$(said --sysfs "$sys" "$sys/devices/properties")"
+same "the secrets of a device are counted once" "devdry-capture: ${#gone[@]} lines for root alone or secret by name are left out" \
+    "$(device /devices/properties/below leds - && said --sysfs "$sys" "$sys/devices/properties" "$sys/devices/properties/below")"
+same "one secret" "devdry-capture: 1 line for root alone or secret by name is left out" \
+    "$(said --sysfs "$sys" "$sys/devices/keyboard")"
+same "a secret by its mode" "devdry-capture: 1 line for root alone or secret by name is left out" \
+    "$(device /devices/closed leds - && write odd 3 /devices/closed any 400 && said --sysfs "$sys" "$sys/devices/closed")"
+same "no secret" "" "$(device /devices/open leds - && said --sysfs "$sys" "$sys/devices/open")"
+same "with secrets left out the status stays" 0 "$("$capture" --sysfs "$sys" "$sys/devices/keyboard" > /dev/null 2>&1; echo $?)"
+same "keys have no properties, so none is left out of them" "" "$(said --walk --sysfs "$sys" "$sys/devices/keyboard")"
+
+# Words of the kernel's command line, with words for which rules ask that would be secrets.
+mkdir -p "$work/own" && cp "$capture"*.awk "$work/own"
+sed "s|sysfs=/sys udevadm|sysfs=$sys udevadm|; s|=/proc/cmdline|=$work/cmdline|; s|^asked_words='|&rd.luks.key my.password wpa-psk pin |" \
+    "$capture" > "$work/own/capture"
+printf '#!/bin/sh\nexit 1\n' > "$work/own/udevadm" && chmod +x "$work/own"/*
+echo 'nomodeset rd.luks.key=gone my.password=gone wpa-psk=gone pin=1 PIN=2 pin' > "$work/cmdline"
+same "words that are secrets" "K: cmdline=nomodeset" "$(PATH=$work/own:$PATH "$work/own/capture" "$sys/devices/open" 2> /dev/null | grep cmdline)"
 
 # Without find, nothing says what is for root alone.
 mkdir "$work/few"
@@ -195,11 +260,11 @@ devdry-capture: there is no find, which says what is for root alone" "$(PATH=$wo
 # Files that can't be read, as a user for whom they are closed.
 write open 0 "$keyboard" descriptors 644
 write open 1 "$card" config 644
-constants() { "${as[@]}" "$work/tools/devdry-capture" --sysfs "$sys" "$sys$1" | grep '^K:'; }
+constants() { "${as[@]}" "$work/tools/devdry-capture" --sysfs "$sys" "$sys$1" 2> /dev/null | grep '^K:'; }
 as=()
 if [ "$(id -u)" = 0 ]; then as=(setpriv --reuid=65534 --regid=65534 --clear-groups); fi
 if [ ${#as[@]} = 0 ] || has setpriv; then
-    mkdir "$work/tools" && cp "$capture" "$capture.awk" "$work/tools" && chmod 755 "$work" "$work/tools"
+    mkdir "$work/tools" && cp "$capture" "$capture"*.awk "$work/tools" && chmod 755 "$work" "$work/tools"
     same "descriptors that can be read" "K: $keyboard/descriptors=6f70656e2d3030300a" "$(constants $keyboard)"
     same "a configuration that can be read" "K: $card/config=6f70656e2d3030310a" "$(constants $card/net/eth0)"
     chmod 0 "$sys$keyboard/descriptors" "$sys$card/config"
@@ -209,4 +274,4 @@ else
     skipped "descriptors and a configuration that can't be read" "root needs setpriv"
 fi
 : > "$sys$keyboard/descriptors" && chmod 644 "$sys$keyboard/descriptors"
-same "descriptors without a byte give no line" "" "$("$capture" --sysfs "$sys" "$sys$keyboard" | grep '^K:')"
+same "descriptors without a byte give no line" "" "$("$capture" --sysfs "$sys" "$sys$keyboard" 2> /dev/null | grep '^K:')"

@@ -3,15 +3,11 @@
 set -uo pipefail
 # shellcheck source=lib.sh
 . "$(dirname "$0")/lib.sh"
-editor=${EDITOR_PROGRAM:-$top/crates/devdry_lsp/out/devdry_lsp}
-if [ ! -x "$editor" ]; then
-    skipped "the language server" "there is no $editor"
-    exit 0
-fi
-editor=$(realpath "$editor")
+editor=$(realpath "${EDITOR_PROGRAM:-$top/build/devdry-lsp}")
 
-python3 "$top/tests/editor.py" "$editor" "$program"
-python3 "$top/tests/editor_texts.py" "$editor" "$program"
+told_by python3 "$top/tests/editor.py" "$editor" "$program"
+told_by python3 "$top/tests/editor_changes.py" "$editor" "$program"
+told_by python3 "$top/tests/editor_texts.py" "$editor" "$program"
 
 goes_well "the session of the gate is what verify, update and fmt say" python3 "$top/tests/editor_session.py" "$program"
 same "the session of the gate" "$(cksum < "$top/crates/devdry_lsp/stdout")" "$("$editor" < "$top/crates/devdry_lsp/stdin" | cksum)"

@@ -4,7 +4,7 @@ set -uo pipefail
 # shellcheck source=lib.sh
 . "$(dirname "$0")/lib.sh"
 if has python3; then
-    PYTHONDONTWRITEBYTECODE=1 python3 "$top/tests/read_formats.py" "$program"
+    told_by python3 "$top/tests/read_formats.py" "$program"
 else
     skipped "tests/read_formats.py" "there is no python3"
 fi

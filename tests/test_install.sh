@@ -11,8 +11,8 @@ files_of() { (cd "$1" && find . ! -type d | sed 's/^\.//' | sorted); }
 
 # wanted PREFIX ZSHDIR END: what `make install` puts there, with this ending for the pages
 wanted() {
-    printf '%s\n' "$1"/bin/devdry{,-capture} "$1/share/devdry/devdry-capture.awk" "$2"/_devdry{,-capture} \
-        "$1"/share/bash-completion/completions/devdry{,-capture} "$1"/share/fish/vendor_completions.d/devdry{,-capture}.fish
+    printf '%s\n' "$1"/bin/devdry{,-capture,-test} "$1"/share/devdry/devdry-capture{,-forms,-questions,-shown}.awk "$2"/_devdry{,-capture,-test} \
+        "$1"/share/bash-completion/completions/devdry{,-capture,-test} "$1"/share/fish/vendor_completions.d/devdry{,-capture,-test}.fish
     for page in "$top"/man/*.1; do echo "$1/share/man/man1/${page##*/}$3"; done
 }
 
@@ -26,6 +26,9 @@ same "the installed program runs" "$("$program" --version)" "$(env -i "$root/usr
 captured=$("$top/tools/devdry-capture" --from "$top/examples/machine.txt")
 capture_in() { env -i PATH="$PATH" "$1/devdry-capture" --from "$top/examples/machine.txt"; }
 same "the installed devdry-capture runs" "$captured" "$(capture_in "$root/usr/local/bin")"
+same "the installed devdry-test finds the installed programs" "met
+0" "$(cd "$top" && env -i PATH=/usr/bin:/bin "$root/usr/local/bin/devdry-test" \
+    -r "$work/none" --from examples/machine.txt /dev/sda examples/disk.rules | sed -n 's/^why .*reached its end: .*/met/p'; echo "${PIPESTATUS[0]}")"
 ln -s "$root/usr/local/bin/devdry-capture" "$work/devdry-capture"
 same "the installed devdry-capture runs through a symlink" "$captured" "$(capture_in "$work")"
 goes_well "make uninstall" make_in uninstall DESTDIR="$root"
@@ -38,6 +41,26 @@ same "the files after make install with other folders" "$(wanted /p /c/zsh '' | 
 same "devdry-capture installed in other folders runs" "$captured" "$(capture_in "$work/own/b")"
 goes_well "make uninstall with other folders" make_in uninstall DESTDIR="$work/own" "${own[@]}"
 same "no files after make uninstall with other folders" "" "$(files_of "$work/own")"
+
+# Blanks in the folder, in the prefix and in the program's name.
+mkdir "$work/a program" && cp "$program" "$work/a program/devdry"
+goes_well "make install with blanks" make --silent -C "$top" install PROGRAM="$work/a program/devdry" DESTDIR="$work/a root" PREFIX="/usr local"
+same "the files after make install with blanks" "$(wanted '/usr local' '/usr local/share/zsh/site-functions' '' | sorted)" "$(files_of "$work/a root")"
+goes_well "make uninstall with blanks" make --silent -C "$top" uninstall DESTDIR="$work/a root" PREFIX="/usr local"
+same "no files after make uninstall with blanks" "" "$(files_of "$work/a root")"
+mkdir -p "$work/end /usr/local/bin" "$work/end/usr/local/bin" && touch "$work/end/usr/local/bin/devdry"
+goes_well "make uninstall with a blank at the end" make --silent -C "$top" uninstall DESTDIR="$work/end "
+same "another folder is left as it is" /usr/local/bin/devdry "$(files_of "$work/end")"
+
+# What is missing is said in one line, and nothing is done.
+lacks() { make --silent -C "$top" "$@" 2>&1 | grep -vE '^make(\[[0-9]+\])?: \*\*\*'; }
+same "make install without a program" "make: there is no $work/none: \`make proofs\` makes the proved programs, in more than an hour; or build those of which no proof was looked at by \`make\`, and then add UNPROVED=1 here" \
+    "$(lacks install PROGRAM="$work/none" DESTDIR="$work/nothing")"
+same "nothing is installed then" "" "$(find "$work" -path "$work/nothing*")"
+for target in unproved proofs check mutants; do
+    same "make $target without the toolchain" "make: there is no rt, the command of the Rattle kit, on PATH or in /opt/rattle/bin: a Debian package of devdry, from whoever has one, needs none of it" \
+        "$(lacks $target RT="$work/none")"
+done
 
 if ! has dpkg-deb || ! has strip; then
     skipped "make deb" "there is no dpkg-deb"

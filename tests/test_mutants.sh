@@ -5,4 +5,4 @@ set -uo pipefail
 # shellcheck source=lib.sh
 . "$(dirname "$0")/lib.sh"
 cd "$top" || exit 1
-PYTHONDONTWRITEBYTECODE=1 python3 tests/edits.py
+told_by python3 tests/edits.py

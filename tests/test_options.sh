@@ -30,7 +30,7 @@ same "devdry(1) has the options of --help" "$(helps)" "$(pages "$top/man/devdry.
 same "devdry(1) has the commands of --help" "$commands" \
     "$(sed -n '/^\.Sh COMMANDS/,/^\.Sh OPT/s/^\.It Cm //p' "$top/man/devdry.1" | sort)"
 same "there is a page for each command" "$verbs" \
-    "$(cd "$top/man" && printf '%s\n' devdry-*.1 | sed 's/^devdry-//; s/\.1$//' | grep -vxE 'capture|lsp' | sort)"
+    "$(cd "$top/man" && printf '%s\n' devdry-*.1 | sed 's/^devdry-//; s/\.1$//' | grep -vxE 'capture|lsp|test' | sort)"
 for verb in $verbs; do
     page=$top/man/devdry-$verb.1
     same "devdry-$verb(1) has the options of --help" "$(helps "$verb")" "$(pages "$page")"
@@ -48,10 +48,16 @@ for verb in $verbs; do
 done
 
 captures=$(program=$top/tools/devdry-capture; helps)
-same "devdry-capture(1) has the options of --help" "$captures" "$(pages "$top/man/devdry-capture.1")"
-same "the synopsis of devdry-capture(1) has all options except help and version" \
-    "$(grep -vxE -e '-h|--help|-V|--version' <<< "$captures")" \
-    "$(sed -n '/^\.Sh SYNOPSIS/,/^\.Sh DESC/p' "$top/man/devdry-capture.1" | grep -oE 'Fl Fl [a-z-]+' | sed 's/^Fl Fl /--/' | sort -u)"
+tests=$(program=$top/tools/devdry-test; helps)
+for script in capture test; do
+    options=$captures
+    if [ "$script" = test ]; then options=$tests; fi
+    same "devdry-$script(1) has the options of --help" "$options" "$(pages "$top/man/devdry-$script.1")"
+    # (--root is named by its short form)
+    same "the synopsis of devdry-$script(1) has all options except help and version" \
+        "$(grep -vxE -e '-h|--help|-V|--version|--root' <<< "$options")" \
+        "$(sed -n '/^\.Sh SYNOPSIS/,/^\.Sh DESC/p' "$top/man/devdry-$script.1" | grep -oE 'Fl (Fl )?[a-z-]+' | sed 's/^Fl Fl /--/; s/^Fl /-/' | sort -u)"
+done
 
 # What bash offers after these words, the first of which is the program.
 bash_offers() {
@@ -86,6 +92,10 @@ done
     same "bash offers all files to devdry-capture" "a.rules b.hwdb c.txt folder" "$(bash_offers devdry-capture '' | paste -s -d " " -)"
     same "bash offers all files after --from" "c.txt" "$(bash_offers devdry-capture --from c)"
     same "bash offers folders after --sysfs" "folder" "$(bash_offers devdry-capture --sysfs '')"
+    same "bash offers all files after --answer-questions" "c.txt" "$(bash_offers devdry-capture --answer-questions c)"
+    same "bash offers all files to devdry-test" "a.rules b.hwdb c.txt folder" "$(bash_offers devdry-test '' | paste -s -d " " -)"
+    same "bash offers folders to devdry-test after -r" "folder" "$(bash_offers devdry-test -r '')"
+    same "bash offers all files to devdry-test after --from" "c.txt" "$(bash_offers devdry-test --from c)"
 )
 same "bash offers formats after --format" "gcc github gitlab" "$(bash_offers devdry verify --format g | paste -s -d " " -)"
 same "bash offers codes after --ignore" "H H1 H2 H3 H4 H5 H6" "$(bash_offers devdry update --ignore H | paste -s -d " " -)"
@@ -95,6 +105,8 @@ same "bash offers the codes to explain" "$codes" "$(bash_offers devdry explain '
 same "docs/messages.md has these codes" "$codes" "$(sed -nE 's/^### ([A-Z][0-9]+) .*/\1/p' "$top/docs/messages.md" | LC_ALL=C sort)"
 same "bash offers the options of devdry-capture" "$captures" "$(bash_offers devdry-capture --kernel -)"
 same "bash offers actions after --action" "change" "$(bash_offers devdry-capture --action c)"
+same "bash offers the options of devdry-test" "$tests" "$(bash_offers devdry-test eth0 -)"
+same "bash offers when there are colors" "always auto" "$(bash_offers devdry-test --color a | paste -s -d " " -)"
 
 if has zsh; then
     # What the function of a program passes to _arguments for a command; the first words of each spec are options.
@@ -106,6 +118,7 @@ if has zsh; then
     }
     for verb in $verbs; do same "zsh offers the options of $verb" "$(helps "$verb")" "$(zsh_offers devdry "$verb")"; done
     same "zsh offers the options of devdry-capture" "$captures" "$(zsh_offers devdry-capture '')"
+    same "zsh offers the options of devdry-test" "$tests" "$(zsh_offers devdry-test '')"
     zsh_commands=$(zsh -f -c '
         _arguments() { state=command; }
         _describe() { print -l -- ${(P)4}; }
@@ -121,6 +134,8 @@ if has fish; then
     for verb in $verbs; do same "fish offers the options of $verb" "$(helps "$verb")" "$(fish_offers "devdry $verb -")"; done
     same "fish offers the options of devdry-capture" "$captures" "$(fish_offers 'devdry-capture -')"
     same "fish offers actions after --action" "change" "$(fish_offers 'devdry-capture --action c')"
+    same "fish offers the options of devdry-test" "$tests" "$(fish_offers 'devdry-test -')"
+    same "fish offers when there are colors" "always auto" "$(fish_offers 'devdry-test --color a' | paste -s -d " " -)"
 else
     skipped "what fish offers" "there is no fish"
 fi

@@ -20,19 +20,22 @@ ends "a bad file" 1 "1 files checked, 0 good, 1 bad" "mistakes.rules:2: V2 unkno
 ends "messages of the database" 0 "" "mistakes.hwdb:1: H1 property without a match: A=1" query none mistakes.hwdb
 ends "a query without a match" 0 "" "" query none trackball.hwdb
 
-# With --all, /dev/stdin is read if it is a file, but not if it is a pipe.
-status=0
-"$program" verify --all /dev/stdin < disk.rules > out 2> err || status=$?
-same "--all with a file as /dev/stdin" "0|1 files checked, 1 good, 0 bad|" "$status|$(cat out)|$(cat err)"
-for verb in verify update; do
+# /dev/stdin is read if it is a file, but not if it is a pipe, which would be waited for: with --all and without.
+for words in "verify" "verify --all" "verify --strict"; do
     status=0
-    echo 'TAG="t"' | "$program" "$verb" --all /dev/stdin > out 2> err || status=$?
-    same "$verb --all with a pipe as /dev/stdin" "3|devdry: cannot read /dev/stdin: not a regular file|devdry: no files" \
-        "$status|$(paste -s -d "|" err)"
+    # shellcheck disable=SC2086 # (the words are several)
+    "$program" $words /dev/stdin < disk.rules > out 2> err || status=$?
+    same "$words with a file as /dev/stdin" "0|1 files checked, 1 good, 0 bad|" "$status|$(cat out)|$(cat err)"
 done
-status=0
-echo 'TAG="t"' | "$program" verify /dev/stdin > out 2> err || status=$?
-same "a pipe as /dev/stdin, without --all" "0|1 files checked, 1 good, 0 bad|" "$status|$(cat out)|$(cat err)"
+unread="devdry: cannot read /dev/stdin"
+for row in "verify --all|: not a regular file|devdry: no files" "verify --strict|: not a regular file|devdry: no files" \
+    "update --all|: not a regular file|devdry: no files" "verify|" "update|" "query m|" "fmt|" "events|" "query m --index|" \
+    "verify --udev disk.rules --users|" "verify disk.rules --options|"; do
+    words=${row%%|*} status=0
+    # shellcheck disable=SC2086
+    { sleep 0.2; echo 'TAG="t"'; } | timeout 5 "$program" $words /dev/stdin > out 2> err || status=$?
+    same "$words with a pipe as /dev/stdin" "3|$unread${row#*|}" "$status|$(paste -s -d "|" err)"
+done
 
 # A block is answered before the next one is there.
 block=$'C: add\nP: /devices/x\nU: block\nN: sda\n'

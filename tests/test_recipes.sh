@@ -159,9 +159,9 @@ for path, line, _, _, code, severity, said in READERS[sys.argv[1]](sys.stdin.buf
     else
         skipped "GitLab's report" "there is no jq"
     fi
-    python3 -c 'import yaml' 2> /dev/null && for file in "$top/.pre-commit-hooks.yaml" "$ci"/*.yml "$ci"/*.yaml; do
+    if python3 -c 'import yaml' 2> /dev/null; then for file in "$top/.pre-commit-hooks.yaml" "$ci"/*.yml "$ci"/*.yaml; do
         goes_well "${file##*/} is YAML" python3 -c 'import sys, yaml; yaml.safe_load(open(sys.argv[1]))' "$file"
-    done
+    done; else skipped "the recipes are YAML" "there is no module yaml of python3"; fi
 else
     skipped "GitHub's annotations and GitLab's report" "there is no python3"
 fi

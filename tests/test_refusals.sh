@@ -4,11 +4,7 @@
 set -uo pipefail
 # shellcheck source=lib.sh
 . "$(dirname "$0")/lib.sh"
-if ! { has cc && has python3 && has ldd; }; then
-    skipped "each growth and each call refused" "cc, python3 or ldd is missing"
-    exit
-fi
 # A statically linked program asks no library for memory.
 goes_well "the program gets its memory from the C library" grep -q 'libc\.so' <(ldd "$program")
 goes_well "the refusing library is built" cc -shared -fPIC -O2 -o "$work/refusing.so" "$top/tests/refusing.c" -ldl
-python3 "$top/tests/refusals.py" "$program" "$work/refusing.so"
+told_by python3 "$top/tests/refusals.py" "$program" "$work/refusing.so" "${EDITOR_PROGRAM:-$top/build/devdry-lsp}"

@@ -3,4 +3,4 @@
 set -uo pipefail
 # shellcheck source=lib.sh
 . "$(dirname "$0")/lib.sh"
-PYTHONDONTWRITEBYTECODE=1 python3 "$top/tests/rows.py" "$program"
+told_by python3 "$top/tests/rows.py" "$program"

@@ -6,12 +6,12 @@ set -uo pipefail
 . "$(dirname "$0")/lib.sh"
 cd "$top" || exit 1
 if has shellcheck; then
-    goes_well "shellcheck" shellcheck tools/devdry-capture .ci/run tests/*.sh bench/*.sh packaging/*.sh
+    goes_well "shellcheck" shellcheck tools/devdry-capture tools/devdry-test tools/*.sh .ci/run tests/*.sh bench/*.sh packaging/*.sh
 else
     skipped "shellcheck" "there is no shellcheck"
 fi
 if has pyflakes3; then
-    goes_well "pyflakes" pyflakes3 tests/*.py tests/tables/*.py tests/tables/kinds/*.py bench/*.py bench/pages/*.py
+    goes_well "pyflakes" pyflakes3 tools/*.py tests/*.py tests/tables/*.py tests/tables/kinds/*.py bench/*.py bench/pages/*.py
 else
     skipped "pyflakes" "there is no pyflakes3"
 fi

@@ -6,7 +6,7 @@ set -uo pipefail
 cd "$top" || exit 1
 if has python3; then
     # (each session has its own line)
-    python3 tests/typed.py "$program" README.md docs/*.md || not_ok "tests/typed.py runs to its end" "$?"
+    told_by python3 tests/typed.py "$program" README.md docs/*.md
 else
     skipped "tests/typed.py" "there is no python3"
 fi

@@ -97,7 +97,8 @@ def main(program, documents):
             for path in (f"{folder}/build/devdry", f"{room}/bin/devdry"):
                 os.makedirs(os.path.dirname(path))
                 os.symlink(program, path)
-            os.symlink(f"{TOP}/tools/devdry-capture", f"{room}/bin/devdry-capture")
+            for name in ("devdry-capture", "devdry-test"):
+                os.symlink(f"{TOP}/tools/{name}", f"{room}/bin/{name}")
             environment = {**os.environ, "PATH": f"{room}/bin:{os.environ['PATH']}", "LC_ALL": "C.UTF-8", "HOME": room}
             made = set()
             for number, lines in blocks(text):

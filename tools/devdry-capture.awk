@@ -1,26 +1,15 @@
 # The second step of devdry-capture: reads records, a letter and a text in each line, and prints the devices that are
-# asked for, each with its parents, as event blocks or as keys of rules. devdry-capture says what the letters mean. It sets
-# these variables, each empty if nothing is said:
+# asked for, each with its parents, as event blocks or as keys of rules. devdry-capture says what the letters mean; other
+# forms of a file are read by devdry-capture-forms.awk, and what may be shown is in devdry-capture-shown.awk. It sets these
+# variables, each empty if nothing is said:
 #   action    the action of the events
 #   all       print each device that has a record, not only those of the `w:` lines
 #   answers   print answers to what rules ask for, of what udev has stored
 #   kernel    of the device itself print only what the kernel reports
-#   recorded  the records are those of a file
+#   recorded  the records are those of a file, whose name is in the environment as `place`
+#   saying    there are no records: the lines are a message of the first step, to be said
 #   walk      print keys, not blocks
 # The status is 1 if a device is not printed, 4 if there is none.
-
-# Says what is left out of a block.
-function say(text) { printf "devdry-capture: %s\n", text | "cat 1>&2" }
-
-# Says which device is left out, and sets the status accordingly.
-function complain(text) { say(text); failed = 1 }
-
-# Cuts NAME=VALUE into `name` and `value`.
-function cut(text,    at) {
-    at = index(text, "=")
-    name = substr(text, 1, at - 1)
-    value = substr(text, at + 1)
-}
 
 # A line of the device, each letter and name once: a later one replaces an earlier one. With --kernel, what udev has added
 # does not count.
@@ -50,9 +39,13 @@ function is_added(name) {
     return !recorded || path in initialized || name ~ added
 }
 
+# Whether a text is one of the two parts of a device number.
+function is_number(text) { return text ~ /^[0-9]+$/ && text + 0 < 4294967296 }
+
 # A property: the name of the node is given in full, as udev does.
 function property(text, from_udev) {
     cut(text)
+    has_properties[path]
     if (name == "DEVNAME") {
         sub(/^\/dev\//, "", value)
         set("N", value)
@@ -62,7 +55,7 @@ function property(text, from_udev) {
     if (name == "DRIVER") set("V", value)
     if (name == "MAJOR") major[path] = value
     if (name == "MINOR") minor[path] = value
-    if (major[path] ~ /^[0-9]+$/ && minor[path] ~ /^[0-9]+$/) set("D", major[path] ":" minor[path])
+    if (is_number(major[path]) && is_number(minor[path])) set("D", major[path] ":" minor[path])
     # (links and tags have lines of their own)
     if (name == "TAGS") tags(value)
     else if (name != "DEVLINKS" && name != "CURRENT_TAGS") add("E", name, text, from_udev)
@@ -74,11 +67,12 @@ function tags(text,    i, n, names) {
     for (i = 1; i <= n; i++) if (names[i] != "") add("G", names[i], names[i], 1)
 }
 
-# The text that umockdev-record wrote with escapes.
+# The text that umockdev-record wrote with escapes. It ends at a NUL byte.
 function unescaped(text,    out, c) {
     out = ""
     while (match(text, /\\([0-3][0-7][0-7]|.)/)) {
         c = substr(text, RSTART + 1, RLENGTH - 1)
+        if (c == "000") return out substr(text, 1, RSTART - 1)
         if (RLENGTH == 4) c = sprintf("%c", substr(c, 1, 1) * 64 + substr(c, 2, 1) * 8 + substr(c, 3, 1))
         else if (c in escapes) c = escapes[c]
         out = out substr(text, 1, RSTART - 1) c
@@ -92,19 +86,20 @@ function attribute(text) {
     cut(text)
     value = unescaped(value)
     sub(/[\r\n]+$/, "", value)
-    if (value !~ /[\001-\010\012-\037\177]/) add("A", name, name "=" value, 0)
+    if (!has_controls(value)) add("A", name, name "=" value, 0)
 }
 
 # A file with a NUL byte, by its path, and the text before that: it is an attribute of the device in whose folder the file
 # is, if it is one line. Devices are known when all records are read. No keys are made of files that are no text otherwise.
-function beginning(text) {
-    cut(text)
-    path = name
+function beginning(text,    at) {
+    at = index(text, "//")
+    path = name = substr(text, 1, at - 1)
+    value = substr(text, at + 2)
     while (sub(/\/[^\/]*$/, "", path) && path != "" && !(path in seen));
     name = substr(name, length(path) + 2)
-    if (path == "" || name ~ /=/) return
+    if (path == "" || name ~ /=/ || has_controls(name)) return
     sub(/[\001\r]+$/, "", value)
-    if (value !~ /[\001-\010\012-\037\177]/) {
+    if (!has_controls(value)) {
         if (!walk || (path, "A", name) in lines) add("A", name, name "=" value, 0)
     } else lines[path, "A", name] = kernels[path, "A", name] = ""
 }
@@ -128,31 +123,66 @@ function host(    parent, name) {
     lines[key] = kernels[key] = "A: " name "/uevent=DEVTYPE=scsi_host"
 }
 
-# Whether an attribute is a secret, and so in no block, with all records read: by its name, as records have no modes and as
-# the kernel lets everyone open some of these; or as nobody but root may read its file, unless a builtin of udev looks at it.
+# Whether a property is a secret, by its name. (Of an input device KEY says which keys it has.)
+function is_secret_property(path, name) {
+    return says_secret(name) && !(name == "KEY" && lines[path, "U", "U"] == "U: input")
+}
+
+# Whether an attribute is a secret: by its name, as records have no modes and as the kernel lets everyone open some of these;
+# or as nobody but root may read its file. What a builtin of udev looks at is none.
 function is_secret(path, name,    of, type) {
     of = substr(lines[path, "U", "U"], 4)
     type = substr(lines[path, "E", "DEVTYPE"], 12)
-    if (name ~ transports) return 0
-    if (name ~ secret || of == "dmi" && name ~ secret_of_dmi) return 1
-    # (of a service it is the name of a protocol)
-    if (of == "thunderbolt" && name == "key" && type != "thunderbolt_service") return 1
-    return (path "/" name) in guarded && !(of in looked_at && name ~ looked_at[of])
+    if (name ~ transports || of in looked_at && name ~ looked_at[of]) return 0
+    if ((path "/" name) in guarded || of == "dmi" && name ~ secret_of_dmi) return 1
+    # (of a service of Thunderbolt it is the name of a protocol)
+    return says_secret(name) && !(of == "thunderbolt" && name == "key" && type == "thunderbolt_service")
 }
 
-# Removes the secrets of a device.
-function remove_secrets(path,    i, key, part) {
+# Removes the secrets of a device, with all records read, and counts those that would be printed.
+function remove_secrets(path,    i, key, part, found) {
     for (i = 1; i <= count[path]; i++) {
         key = keys[path, i]
         split(key, part, SUBSEP)
-        if (part[2] == "A" && is_secret(path, part[3])) lines[key] = kernels[key] = ""
+        if (part[2] == "A" && is_secret(path, part[3]) || part[2] == "E" && is_secret_property(path, part[3])) found[key]
     }
+    for (key in found) {
+        if (lines[key] != "" && (!walk || lines[key] ~ /^A/)) secrets_of[path]++
+        lines[key] = kernels[key] = ""
+    }
+}
+
+# The words of a command line without those that are secrets.
+function safe_words(text,    i, n, words, out) {
+    n = split(text, words, " ")
+    for (i = 1; i <= n; i++) {
+        if (says_secret(substr(words[i], 1, index(words[i] "=", "=") - 1))) secrets_left_out++
+        else out = out (out == "" ? "" : " ") words[i]
+    }
+    return out
+}
+
+# Begins what is said about a device, with its path; `wanted` is whether it is printed where no device is named.
+function begin(text, wanted) {
+    path = text
+    if (!is_path(path) || has_controls(path)) {
+        if (!(path in refused)) complain(path ": " (is_path(path) ? "its path has control bytes" : "no path of a device"))
+        refused[path]
+        path = ""
+        return
+    }
+    if (!(path in seen)) new_record()
+    if (all && wanted && !(path in ordered)) {
+        ordered[path]
+        order[++orders] = path
+    }
+    set("P", path)
+    if (recorded) host()
 }
 
 # The first record of a device.
 function new_record(    name) {
     seen[path] = 1
-    if (all) order[++orders] = path
     name = path
     sub(/.*\//, "", name)
     by_name[name] = by_name[name] (name in having ? " " : "") path
@@ -169,18 +199,42 @@ function path_of(asked) {
     return ""
 }
 
-# Whether a text is a path as blocks have it.
-function is_path(text) { return text ~ /^\/./ && text !~ /\/\// && text !~ /\/$/ }
+# A line of a device that is left out, as it has a control byte. Attributes that are no text are many, and not counted.
+function leave_out(line) {
+    if ((path, line) in left_out || line ~ /^a: / && !has_controls(substr(line, 1, index(line, "=")))) return
+    left_out[path, line]
+    lines_left_out[path]++
+}
+
+# A line of a record about the device at `path`.
+function about(line,    letter, text) {
+    if (has_controls(line)) { leave_out(line); return }
+    letter = substr(line, 1, 2)
+    text = substr(line, 4)
+    if (letter == "U:" || letter == "V:") set(substr(letter, 1, 1), text)
+    if (letter == "N:") { sub(/=.*/, "", text); set("N", text) }
+    if (letter == "S:") add("S", text, text, 1)
+    if (letter == "E:") property(text, is_added(substr(text, 1, index(text, "=") - 1)))
+    if (letter == "e:") property(text, 0)
+    if (letter == "d:") drivers[path] = text
+    if (letter == "a:") add("A", substr(text, 1, index(text, "=") - 1), text, 0)
+    if (letter == "k:") add("K", substr(text, 1, index(text, "=") - 1), text, 0)
+    if (letter == "H:" && text ~ /^(descriptors|config)=/) {
+        cut(text)
+        add("K", path "/" name, path "/" name "=" tolower(value), 0)
+    }
+    if (letter == "A:") attribute(text)
+    if (letter == "L:" && text ~ /=/) link(text)
+}
 
 BEGIN {
     escapes["n"] = "\n"; escapes["t"] = "\t"; escapes["r"] = "\r"
     escapes["b"] = "\b"; escapes["f"] = "\f"; escapes["v"] = "\v"
     # attributes that are not keys: these are in keys above, change with each boot, or count and measure
     passing = "^(subsystem|driver|dev|stat|inflight|statistics/.*|power/runtime_.*_time)$"
-    # attributes that are secrets whatever their mode is, unless they are those of `transports`
-    secret = "(^|/)(username|password|dhchap_)[^/]*$|(password|passphrase)$|secret|(^|/)iscsi_(session|connection)/"
     secret_of_dmi = "^((board|chassis|product)_serial|product_uuid)$"
-    # attributes that builtins of udev look at: those of transport classes, then others by the subsystem of their device
+    # attributes that builtins of udev look at, which are no secrets: those of transport classes, then others by the
+    # subsystem of their device
     transports = "^(ata_port/[^/]+/port_no|fc_transport/[^/]+/port_name|sas_device/[^/]+/(phy_identifier|sas_address)" \
         "|sas_port/[^/]+/num_phys|iscsi_session/[^/]+/targetname" \
         "|connection[^/]+/iscsi_connection/[^/]+/persistent_(address|port))$"
@@ -231,35 +285,32 @@ BEGIN {
     added = "^(ID|SYSTEMD|UDISKS|UPOWER|LIBINPUT|DM|MD|LVM|SCSI|ACCEL|EVDEV|IEEE1394|KEYBOARD|MOUSE|POINTINGSTICK|SOUND|XKB)_"
 }
 
+# A message of the first step that has a control byte.
+saying { message = message (NR > 1 ? "\n" : "") $0; next }
+
+# The lines that are not of the first step itself: they have no small letters, and end at a NUL byte, which is written \001.
+/^f:/ {
+    $0 = substr($0, 3)
+    row++
+    sub(/\001.*/, "")
+    if (recorded) sub(/\r$/, "")
+    if (recorded && has_other_form($0)) next
+    if ($0 !~ /^[A-Z]:/ && $0 != "") {
+        if (recorded) no_line("no line of a record")
+        next
+    }
+}
 { letter = substr($0, 1, 2); text = substr($0, 4) }
+(letter == "c:" || letter == "m:") && has_controls(text) { next }
+letter == "c:" && sub(/^cmdline=/, "", text) { text = "cmdline=" safe_words(text) }
 letter == "c:" { constants = constants "K: " text "\n"; next }
-letter == "m:" { elsewhere = elsewhere "A: " text "\n"; next }
+letter == "m:" { elsewhere[++elsewheres] = text; next }
+letter == "n:" { sub(/\/\.\//, "/", text); if (!(text in odd)) { odd[text]; newlines++ } next }
 letter == "x:" { sub(/\/\.\//, "/", text); guarded[text]; next }
 letter == "z:" { sub(/\/\.\//, "/", text); begun[++beginnings] = text; next }
 letter == "w:" { if (text == "") failed = 1; else order[++orders] = text; next }
-letter == "P:" {
-    path = text
-    if (!is_path(path)) { complain(path ": no path of a device"); path = ""; next }
-    if (!(path in seen)) new_record()
-    set("P", path)
-    if (recorded) host()
-    next
-}
-path == "" || $0 == "" { next }
-letter == "U:" || letter == "V:" { set(substr(letter, 1, 1), text) }
-letter == "N:" { sub(/=.*/, "", text); set("N", text) }
-letter == "S:" { add("S", text, text, 1) }
-letter == "E:" { property(text, is_added(substr(text, 1, index(text, "=") - 1))) }
-letter == "e:" { property(text, 0) }
-letter == "d:" { drivers[path] = text }
-letter == "a:" { add("A", substr(text, 1, index(text, "=") - 1), text, 0) }
-letter == "k:" { add("K", substr(text, 1, index(text, "=") - 1), text, 0) }
-letter == "H:" && text ~ /^(descriptors|config)=/ {
-    cut(text)
-    add("K", path "/" name, path "/" name "=" tolower(value), 0)
-}
-letter == "A:" { attribute(text) }
-letter == "L:" && text ~ /=/ { link(text) }
+letter == "P:" { begin(text, 1); walking = 0; next }
+path != "" && $0 != "" { about($0) }
 
 # A value that this text matches. What patterns are made of is put into sets, and so are a backslash in a pattern and one
 # that would hide the quote after the value; `|` can't be in a set, and becomes the `?` that any byte matches.
@@ -358,16 +409,14 @@ function rendered(path, command,    out, at, n, text) {
     return out command
 }
 
-# The stored properties that the pattern matches, as a program prints them, as lines of an answer. A value
-# that begins with a quote, or has a blank at an end, is put between quotes.
+# The stored properties that the pattern matches, as a program prints them, as lines of an answer.
 function printed_by(path, pattern,    i, part, out) {
     for (i = 1; i <= count[path]; i++) {
         split(keys[path, i], part, SUBSEP)
         if (part[2] != "E" || part[3] !~ pattern) continue
         cut(substr(lines[keys[path, i]], 4))
         if (value == "" || value ~ /[\r]/) continue
-        if (value ~ /^["' \t]|[ \t]$/) value = "\"" value "\""
-        out = out "\nO: " name "=" value
+        out = out "\nO: " name "=" as_printed(value)
     }
     return substr(out, 5)
 }
@@ -399,21 +448,44 @@ function stored(path,    i, key, out) {
     return out
 }
 
+# The attributes of other devices that rules name in brackets, as attributes of the event device.
+function attributes_elsewhere(path,    i, out) {
+    for (i = 1; i <= elsewheres; i++) {
+        cut(elsewhere[i])
+        if (!((path, "A", name) in lines)) out = out "A: " elsewhere[i] "\n"
+    }
+    return out
+}
+
+# Whether a line of a block is about a file that a line before is about. These lines are of the event and not of a device,
+# and devices of a chain may have the same ones, as two network interfaces have the slots of the machine.
+function is_told(line) {
+    cut(line)
+    return told[name]++
+}
+
 # The lines of a device, each with its newline. With `first` it is the event device.
 function device(path, first,    of, i, line, letter) {
+    if (!(path in counted)) {
+        counted[path]
+        controls += lines_left_out[path]
+        secrets_left_out += secrets_of[path]
+    }
     for (i = 1; i <= count[path]; i++) {
         line = first && kernel ? kernels[keys[path, i]] : lines[keys[path, i]]
         if (shorter && line ~ unasked) continue
         letter = substr(line, 1, 1)
+        if (letter == "K" && is_told(line)) continue
         of[letter] = of[letter] (walk ? as_key(line, first ? "" : "S") : line == "" ? "" : line "\n")
     }
-    if (first) of["A"] = of["A"] elsewhere
+    if (first) of["A"] = of["A"] attributes_elsewhere(path)
     if (first && answers) of["E"] = of["E"] stored(path)
     return of["P"] of["U"] of["V"] of["N"] of["D"] of["A"] of["E"] of["G"] of["S"] of["K"]
 }
 
 # A device with its parents, those that have a record, as a block or as keys; `devices` says how many they are.
 function written(path,    out, parent) {
+    split("", told)
     out = (walk ? "" : "C: " action "\n") device(path, 1)
     devices = 1
     parent = path
@@ -439,15 +511,25 @@ function block(path,    out) {
 }
 
 END {
+    if (saying) {
+        say(message)
+        exit close("cat 1>&2")
+    }
     for (i = 1; i <= beginnings; i++) beginning(begun[i])
     for (path in seen) remove_secrets(path)
     for (i = 1; i <= orders; i++) {
         path = path_of(order[i])
-        if (path in printed || path == "") continue
+        if (path in printed || path in refused || path == "") continue
         printed[path] = 1
         if (path in seen) block(path)
         else complain(path ": no device of the record")
     }
+    leave_object()
+    say_strange()
+    say_walked()
+    say_left_out(newlines, "name", " with a newline")
+    say_left_out(controls, "line", " with a control byte")
+    say_left_out(secrets_left_out, "line", " for root alone or secret by name")
     close("cat 1>&2")
     exit (orders || failed ? failed : 4)
 }

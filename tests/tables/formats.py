@@ -180,6 +180,11 @@ SIGNS = [
     *in_formats("characters before the place", 'TAG="\u00e4\u20ac\U0001f600",<S2|TAG>+="x"'),
     *in_formats("control characters of two bytes, and marks of direction", 'KERNEL=="sda\u202e\u0085", <V1|FO\u2066\u009bO=="a\u2069">',
                 "TAG+=\"\u202d\u202f\u2065\u206a\u00a0\u2028\"<S1=|,>", file="a\u009b2J\u202e.rules"),
+    *in_formats("all marks of direction, ends of lines, and the characters beside them", 'TAG+="\u061b\u061c\u061d\u200d\u200e\u200f\u2010"<S1=|,>',
+                'TAG+="\u2027\u2028\u2029\u202a\u202b\u202c\u202d\u202e\u202f"<S1=|,>', 'TAG+="\u2065\u2066\u2067\u2068\u2069\u206a"<S1=|,>',
+                'TAG+="\u007e\u0080\u0085\u0090\u009c\u009f\u00a0"<S1=|,>', file="\u061c\u200e\u200f\u2028\u2029\u202a\u2069\u0080\u009f.rules"),
+    *in_formats("the ends of such characters without their first bytes",
+                b"TAG+=\"\x9b\x85 \xc2|\x85 \xd8|\x9c \xe2|\x80\xae \xe2\x80|\xae \xe1\x80\xae \xe2\x82\xae\"<S1=|,>"),
     *in_formats("no-break spaces", 'TAG+="a",<V1|\u00a0TAG+="b">', 'TAG+="a", <V1|\u00a0TAG+="b">'),
     *in_formats("lines that end in CR LF", 'TAG+="a"<V1|\r>', "<V1|\r>"),
     *in_formats("bytes that are not UTF-8", b"<V1|A\xFFB>", b'LABEL="<S4|\xE4>"'),
@@ -248,6 +253,25 @@ WINDOWS = [
     *(in_window(f"{character}, {gone} of its bytes before the part that would be shown", long_line(200, 400, character.encode(), 160 - gone),
                 blank_missing(201), long_line(200, 400, character.encode(), 160 - gone)[160 + kept:320 + kept], " " * (40 - kept) + "^~~")
       for character, gone, kept in [("ä", 1, 1), ("€", 1, 2), ("€", 2, 1), ("\U0001f600", 1, 3), ("\U0001f600", 2, 2), ("\U0001f600", 3, 1)]),
+    *(in_window(f"U+{ord(obeyed):04X} {kept} bytes into the part that is shown", long_line(200, 400, obeyed.encode(), 160 + kept), blank_missing(201),
+                long_line(200, 400, sign.encode(), 160 + kept)[160:320], " " * (41 - len(sign.encode())) + "^~~")
+      for obeyed, sign in [("\u009b", "\u00bf"), ("\u061c", "\u0606"), ("\u202e", "\u203d"), ("\u2066", "\u2047")] for kept in (0, 1, 2, 7)),
+    # (after three bytes that continue a character none more is left out, and what comes before the part counts for what is in it)
+    in_window("a character that is cut by what is not UTF-8", long_line(200, 400, b"\xe2\x80\xae\x80\x80", 159), blank_missing(201),
+              long_line(200, 400, b"\xe2\x80\xbd\x80\x80", 159)[163:323], " " * 36 + "^~~"),
+]
+
+# Lines of the most bytes that a fingerprint has whole, and longer ones, of which it has the ends.
+LONG_LINES = [
+    *(row for length in (199, 200, 201, 202) for row in in_formats(f"a line of {length} bytes", f'TAG+="{"x" * (length - 16)}",<S2|TAG>+="y"',
+                                                                   formats=["gitlab", "sarif"])),
+    *in_formats("a long line with a character at the cut", f'TAG+="{"x" * 92}\u20ac{"y" * 300}\u20ac{"z" * 86}",<S2|TAG>+="y"', formats=["gitlab", "sarif"]),
+    *in_formats("long lines that differ in a byte at the end, and one that is there twice", *(f'TAG+="{"x" * 400}",<S2|TAG>+="{end}"' for end in "yzy"),
+                formats=["gitlab", "sarif"]),
+    # (they are counted as lines of the same text are)
+    *in_formats("long lines that differ in the middle alone", *(f'TAG+="{"x" * 200}{middle}{"x" * 200}",<S2|TAG>+="z"' for middle in "abc"),
+                formats=["gitlab", "sarif"]),
+    *in_formats("a long line of bytes that are not UTF-8", b'TAG+="' + b"\xff\xe2\x80" * 100 + b'",<S2|TAG>+="y"', formats=["gitlab", "sarif"]),
 ]
 
 
@@ -295,9 +319,10 @@ ROWS = [
     *SIGNS,
     *NAMES,
     *WINDOWS,
+    *LONG_LINES,
     Row("a path is written as it was opened, except for GitHub", ["verify", "--format=github", GITHUB_PATH], {GITHUB_PATH: "FOO\\=\n"},
         output="1 files checked, 0 good, 1 bad\n", status=1,
-        messages=b"::error file=a\\b%2Cc%3Ad%2525%0A%0De\t\x1b \xC3\xA4.rules,line=1,col=1,endColumn=6,title=V1::bad syntax: FOO\\x5C=\n"),
+        messages=b"::error file=a\\b%2Cc%3Ad%2525%0A%0De%09%1B \xC3\xA4.rules,line=1,col=1,endColumn=6,title=V1::bad syntax: FOO\\x5C=\n"),
     *(in_image(form) for form in FORMATS),
     *(of_database(form, *rest) for form in FORMATS for rest in BY_MARKS),
     Row("plain is the default format", "verify --format plain r.rules", {"r.rules": MISTAKES},

@@ -74,6 +74,8 @@ PATHS = [
     row("a path of over 1,023 bytes", {}, "note r.rules:1: text too long: IMPORT{file}", rules='IMPORT{file}!="/' + "x/" * 511 + 'xx", ENV{NO}="1"\n'),
     row("two files, and one of them twice", {"/run/x": "A=1\n", "/run/y": "A=2\nB=3\n"}, "A=1", "B=3",
         rules='IMPORT{file}="/run/x"\nIMPORT{file}="/run/y"\nIMPORT{file}="/run/x"\n'),
+    row("two files in one rule, and a third that is not there", {"/run/x": "A=1\n", "/run/y": "B=2\n"}, "A=1", "B=2", "YES=1",
+        rules='IMPORT{file}="/run/x", IMPORT{file}="/run/y", IMPORT{file}!="/run/z", ENV{YES}="1"\n'),
     row("what an import sets stays where the rule stops", {"/run/x": "A=1\n"}, "A=1", "B=1|", rules='IMPORT{file}!="/run/x", ENV{NO}="1"\nENV{B}="$env{A}|"\n'),
     row("a key that is cut in two is not seen", {"/run/x": "A=1\n"}, "NO=1", *unrun(2), rules='IMPORT{fi\\\nle}!="/run/x", ENV{NO}="1"\n'),
     row("a rules file of the root", {"/run/x": "A=1\n", "/etc/udev/rules.d/r.rules": RULE}, "A=1", "YES=1", words="events --udev -r mnt"),

@@ -50,7 +50,16 @@ KEYS = [
         "Host", "Virtualization", "KernelCommandLine", "KernelVersion", "Credential", "Architecture", "Firmware"))),
 ]
 
+LONG_LIST = " ".join(f"lan{number}" for number in range(300))
+
 LINES = [
+    lines("a list of over 1,024 bytes", f"[Match]\nOriginalName={LONG_LIST} eth0\n[Link]\nNmae=wan0\n", (4, 2, "Nmae")),
+    Row("a list of over 1,024 bytes, of which the last word fits", "events --udev -r . --sources",
+        {"etc/systemd/network/10-a.link": f"[Match]\nOriginalName={LONG_LIST} eth0\n[Link]\nName=wan0\n",
+         "etc/udev/rules.d/r.rules": 'IMPORT{builtin}="net_setup_link", ENV{N}="$env{ID_NET_NAME}"\n'},
+        "C: add\nP: /d/eth0\nU: net\nE: INTERFACE=eth0\nE: IFINDEX=2\nA: flags=0x1002\n",
+        "event add /d/eth0\n-: env ACTION=add\n-: env DEVPATH=/d/eth0\nr.rules:1: env ID_NET_LINK_FILE=/etc/systemd/network/10-a.link\n"
+        "r.rules:1: env ID_NET_NAME=wan0\n-: env IFINDEX=2\n-: env INTERFACE=eth0\nr.rules:1: env N=wan0\n-: env SUBSYSTEM=net\n\n"),
     lines("comments and empty lines", "; a\n\n # b\n\t\n" + MATCH),
     lines("a line without =", MATCH + "[Link]\nName lan0\n", (4, 3, "Name lan0")),
     lines("a line without a key", MATCH + " = a\n", (3, 3, "= a")),

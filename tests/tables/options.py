@@ -22,6 +22,7 @@ TAKEN = [
     verified("two options of a file, the last without a newline", "--no-summary\n--lint", messages=STYLE + LINT, output=""),
     verified("comments, empty lines and blanks in a file of options", "# --no-summary\n\n \t\n\t--lint \n  # --no-style\n", messages=STYLE + LINT),
     verified("lines of a file of options that end in CR LF", "--lint\r\n\r\n--no-style\r\n", messages=LINT),
+    verified("a file of options of over 4,096 bytes", "# a line\n" * 500 + "--lint\n" + "#\n" * 500, messages=STYLE + LINT),
     verified("a value with a blank and an equals sign", "--root=/none/a b=c\n", messages=STYLE),
     verified("an option that the command line gives, too, once", "--format=gcc\n", "--format=plain", messages=STYLE),
     verified("an option that the command line gives with its value in the next word", "--format=gcc\n--lint\n", "--format plain", messages=STYLE + LINT),

@@ -5,14 +5,20 @@ MORE = "\nFor more information, try '--help'.\n"
 
 # of each command its arguments, its flags, and its options with the value that each takes
 COMMANDS = {
-    "update": ("[FILE]...", ["--strict", "--all", "--lint"], {"--root": "<DIR>", "--format": "<FORMAT>", "--color": "<WHEN>", "--ignore": "<CODES>"}),
-    "query": ("<MODALIAS> [FILE]...", ["--all", "--sources"], {"--root": "<DIR>", "--index": "<FILE>"}),
-    "verify": ("[FILE]...", ["--strict", "--all", "--no-summary", "--no-style", "--lint", "--udev"],
-               {"--root": "<DIR>", "--format": "<FORMAT>", "--color": "<WHEN>", "--ignore": "<CODES>", "--users": "<FILE>", "--groups": "<FILE>", "--with": "<FILE>"}),
-    "events": ("[FILE]...", ["--all", "--sources", "--questions", "--udev"],
-               {"--root": "<DIR>", "--why": "<FILE[:LINE]>", "--index": "<FILE>", "--with": "<FILE>"}),
-    "files": ("", [], {"--root": "<DIR>", "--with": "<FILE>"}),
-    "compare": ("<OLD> <NEW>", ["--all", "--sources", "--udev", "--rules"], {"--index": "<FILE>", "--with": "<FILE>"}),
+    "verify": ("[FILE]...", ["--strict", "--all", "--no-summary", "--no-style", "--lint", "--links", "--udev"],
+               {"--options": "<FILE>", "--root": "<DIR>", "--with": "<FILE>", "--format": "<FORMAT>", "--color": "<WHEN>", "--ignore": "<CODES>",
+                "--users": "<FILE>", "--groups": "<FILE>", "--stdin-name": "<PATH>"}),
+    "query": ("<MODALIAS> [FILE]...", ["--all", "--sources"],
+              {"--options": "<FILE>", "--root": "<DIR>", "--index": "<FILE>", "--stdin-name": "<PATH>"}),
+    "update": ("[FILE]...", ["--strict", "--all", "--lint"],
+               {"--options": "<FILE>", "--root": "<DIR>", "--format": "<FORMAT>", "--color": "<WHEN>", "--ignore": "<CODES>", "--stdin-name": "<PATH>"}),
+    "events": ("[FILE]...", ["--all", "--sources", "--unused", "--questions", "--udev"],
+               {"--options": "<FILE>", "--root": "<DIR>", "--with": "<FILE>", "--format": "<FORMAT>", "--why": "<FILE[:LINE]>", "--index": "<FILE>"}),
+    "files": ("", [], {"--options": "<FILE>", "--root": "<DIR>", "--with": "<FILE>"}),
+    "compare": ("<OLD> <NEW>", ["--all", "--sources", "--udev", "--rules"],
+                {"--options": "<FILE>", "--with": "<FILE>", "--format": "<FORMAT>", "--index": "<FILE>"}),
+    "fmt": ("<FILE>...", ["--check"], {"--options": "<FILE>", "--stdin-name": "<PATH>"}),
+    "explain": ("<CODE>", [], {}),
 }
 # the letter that an option may be written as
 LETTERS = {"--root": "-r", "--strict": "-s"}
@@ -46,6 +52,22 @@ def twice(command, arguments, option, value=""):
                + usage(command, f"[OPTIONS] {arguments}") + MORE)
 
 
+def unexpected(command, arguments, has_options):
+    """The row of a letter that is no option; how to pass it as an argument is told where there may be one."""
+    tip = "\n  tip: to pass '-x' as a value, use '-- -x'\n" if arguments else ""
+    yield (f"{command} -x", f"error: unexpected argument '-x' found\n{tip}" + usage(command, f"[OPTIONS] {arguments}" if has_options else arguments) + MORE)
+
+
+def without_arguments(command, arguments):
+    """The row of a command that lacks the arguments that it needs, if it needs any."""
+    needed = [argument for argument in arguments.split() if argument.startswith("<")]
+    if needed:
+        listed = "".join(f"  {argument}\n" for argument in needed)
+        # (clap names the options here only if there may be further arguments)
+        options = "[OPTIONS] " if "[" in arguments else ""
+        yield (command, f"error: the following required arguments were not provided:\n{listed}" + usage(command, options + arguments) + MORE)
+
+
 def misused():
     """Words, and what is said about them."""
     for command, (arguments, flags, options) in COMMANDS.items():
@@ -58,6 +80,8 @@ def misused():
             if command != "query":
                 yield from with_value(command, arguments, flag)
             yield from twice(command, arguments, flag)
+        yield from unexpected(command, arguments, bool(flags or options))
+        yield from without_arguments(command, arguments)
 
 
 ROWS = [Row(words, words, messages=text, status=2) for words, text in misused()]

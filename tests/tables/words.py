@@ -1,6 +1,7 @@
 """The words of the command line: help, what is not understood, and what each option does.
 
-The texts of usage begin as clap writes them; what follows their first lines is clap's own.
+Of texts on a word that is not known only the first line is wanted here: what clap adds to it, which words are like it and how the
+command is used, is its own. tables/usage.py has them whole for a word that is like no other.
 """
 from tables.kinds.row import Begins, Row
 
@@ -373,18 +374,13 @@ Usage: devdry events --questions [FILE]...
 For more information, try '--help'.
 """
 
-NO_MODALIAS = """\
-error: the following required arguments were not provided:
-  <MODALIAS>
-
-Usage: devdry query [OPTIONS] <MODALIAS> [FILE]...
-"""
-
 NO_NEW = """\
 error: the following required arguments were not provided:
   <NEW>
 
 Usage: devdry compare <OLD> <NEW>
+
+For more information, try '--help'.
 """
 
 NO_UDEV = """\
@@ -437,9 +433,18 @@ For more information, try '--help'.
 """
 
 
+# what ends each of these texts
+MORE = "\nFor more information, try '--help'.\n"
+
+
 def not_added(path, endings):
     """What is said about a file that can't be added, by how its name may end."""
-    return f"error: invalid value '{path}' for '--with <FILE>': its name has to end in {endings}\n\nFor more information, try '--help'.\n"
+    return f"error: invalid value '{path}' for '--with <FILE>': its name has to end in {endings}\n{MORE}"
+
+
+def not_a_command(word):
+    """What is said about a word that is no command."""
+    return f"error: unrecognized subcommand '{word}'\n\nUsage: devdry <COMMAND>\n{MORE}"
 
 
 NO_SUCH_CODE = """\
@@ -449,35 +454,36 @@ error: invalid value 'V27' for '<CODE>'
 For more information, try '--help'.
 """
 
+HELPS = {
+    "verify": VERIFY_HELP,
+    "query": QUERY_HELP,
+    "update": UPDATE_HELP,
+    "events": EVENTS_HELP,
+    "files": FILES_HELP,
+    "compare": COMPARE_HELP,
+    "fmt": FMT_HELP,
+    "explain": EXPLAIN_HELP,
+}
+
 # (words, the answer)
 ASKED = [
     ("--help", HELP),
     ("-h", HELP),
     ("help", HELP),
-    ("help update", UPDATE_HELP),
-    ("update -h", UPDATE_HELP),
-    ("query --help", QUERY_HELP),
-    ("help verify", VERIFY_HELP),
-    ("verify -h", VERIFY_HELP),
-    ("verify --help", VERIFY_HELP),
-    ("events --help", EVENTS_HELP),
-    ("files --help", FILES_HELP),
-    ("compare -h", COMPARE_HELP),
-    ("fmt --help", FMT_HELP),
-    ("help explain", EXPLAIN_HELP),
+    *((words, text) for command, text in HELPS.items() for words in (f"{command} --help", f"{command} -h", f"help {command}")),
     ("explain S2", EXPLAINED),
     ("explain s2", EXPLAINED),
     ("--version", "devdry 0.1.0\n"),
     ("-V", "devdry 0.1.0\n"),
-    ("query --version", "devdry-query 0.1.0\n"),
+    *((f"{command} {word}", f"devdry-{command} 0.1.0\n") for command in HELPS for word in ("--version", "-V")),
 ]
 
-# (words, how the text begins that says what is wrong with them)
+# (words, the text that says what is wrong with them, or its first line)
 NOT_UNDERSTOOD = [
     ("", HELP),
-    ("none", "error: unrecognized subcommand 'none'\n\nUsage: devdry <COMMAND>\n"),
-    ("install", "error: unrecognized subcommand 'install'\n\nUsage: devdry <COMMAND>\n"),
-    ("query", NO_MODALIAS),
+    ("none", not_a_command("none")),
+    ("install", not_a_command("install")),
+    ("help none", not_a_command("none")),
     ("verify --none", "error: unexpected argument '--none' found\n"),
     ("events --strict", "error: unexpected argument '--strict' found\n"),
     ("verify --sources", "error: unexpected argument '--sources' found\n"),
@@ -518,7 +524,6 @@ NOT_UNDERSTOOD = [
     ("compare a b c", "error: unexpected argument 'c' found\n"),
     ("compare -r a b c", "error: unexpected argument '-r' found\n"),
     ("files a.rules", "error: unexpected argument 'a.rules' found\n"),
-    ("explain", "error: the following required arguments were not provided:\n  <CODE>\n"),
     ("explain V1 V2", "error: unexpected argument 'V2' found\n"),
     ("explain V27", NO_SUCH_CODE),
     ("files --all", "error: unexpected argument '--all' found\n"),
@@ -556,13 +561,13 @@ NOT_UNDERSTOOD = [
     (["compare", "old", ""], EMPTY_SIDE),
     (["compare", "", ""], EMPTY_SIDE),
     (["compare", "--index", "none", "old", ""], EMPTY_SIDE),
-    (["verify", b"\xff"], "error: an argument is not UTF-8\n"),
+    (["verify", b"\xff"], f"error: an argument is not UTF-8\n{MORE}"),
 ]
 
 
-def begins(text):
-    """A text that a message begins with."""
-    return Begins(text.encode())
+def said(text):
+    """What is said about words: all of it, if the text has its last line, and otherwise how it begins."""
+    return text if text == HELP or text.endswith(MORE) else Begins(text.encode())
 
 
 # The index of ` K=V` after `a*` in version 1, and in version 2 as of line 2 of t.hwdb; and the one of no entry.
@@ -630,6 +635,6 @@ def named(words):
 
 ROWS = [
     *(Row(named(words), words, output=output) for words, output in ASKED),
-    *(Row(named(words), words, messages=begins(text), status=2) for words, text in NOT_UNDERSTOOD),
+    *(Row(named(words), words, messages=said(text), status=2) for words, text in NOT_UNDERSTOOD),
     *(Row(named(words), words, *rest) for words, *rest in UNDERSTOOD),
 ]

@@ -1,8 +1,10 @@
-//! Examples of what names and paths say.
-ghost use Rattle.std.specs.Prelude.{◌≡◌, ◌∷◌, [], None, Some, codes};
+//! What names and paths say, by examples, and which builtins ask for a device of each kind.
+ghost use Rattle.std.specs.Prelude.{◌≡◌, ◌∷◌, [], None, Some, codes, filter};
 ghost use Rattle.builtin_chains.specs.Kinds.{kind_of};
+ghost use Rattle.builtin_chains.specs.Needs.{asks};
 ghost use Rattle.builtin_chains.specs.Paths.{shown_paths};
 
+use crate::asking::Asker;
 use crate::kinds::Kind;
 
 /// Examples: what a name says that a device is.
@@ -38,4 +40,19 @@ pub fn paths_show_devices()
     ensures shown { shown_paths (codes "/d/0000:00:14.0/usb1/1-2/1-2:1.0/x") ≡ codes "/d/0000:00:14.0/usb1/1-2/1-2:1.0" ∷ codes "/d/0000:00:14.0/usb1/1-2"
         ∷ codes "/d/0000:00:14.0/usb1" ∷ codes "/d/0000:00:14.0" ∷ [] }
     ensures own { shown_paths (codes "/d/input7") ≡ codes "/d/input7" ∷ [] }
+{}
+
+/// Which builtins ask for a device of each kind that a path shows: for one of input `input_id` alone, and for any other
+/// `path_id`; beside it `usb_id` for those of USB and for a SCSI device, and `net_id` for a function of PCI, an interface of
+/// USB and a device of virtio.
+pub fn each_kind_is_asked_for_by_its_builtins()
+    ensures function { filter (λ who. asks who Kind.Function) (Asker.UsbId ∷ Asker.PathId ∷ Asker.InputId ∷ Asker.NetId ∷ []) ≡ Asker.PathId ∷ Asker.NetId ∷ [] }
+    ensures device { filter (λ who. asks who Kind.UsbDevice) (Asker.UsbId ∷ Asker.PathId ∷ Asker.InputId ∷ Asker.NetId ∷ []) ≡ Asker.UsbId ∷ Asker.PathId ∷ [] }
+    ensures interface { filter (λ who. asks who Kind.UsbInterface) (Asker.UsbId ∷ Asker.PathId ∷ Asker.InputId ∷ Asker.NetId ∷ []) ≡ Asker.UsbId ∷ Asker.PathId ∷ Asker.NetId ∷ [] }
+    ensures host { filter (λ who. asks who Kind.ScsiParent) (Asker.UsbId ∷ Asker.PathId ∷ Asker.InputId ∷ Asker.NetId ∷ []) ≡ Asker.PathId ∷ [] }
+    ensures unit { filter (λ who. asks who Kind.ScsiDevice) (Asker.UsbId ∷ Asker.PathId ∷ Asker.InputId ∷ Asker.NetId ∷ []) ≡ Asker.UsbId ∷ Asker.PathId ∷ [] }
+    ensures controller { filter (λ who. asks who Kind.Nvme) (Asker.UsbId ∷ Asker.PathId ∷ Asker.InputId ∷ Asker.NetId ∷ []) ≡ Asker.PathId ∷ [] }
+    ensures virtio { filter (λ who. asks who Kind.Virtio) (Asker.UsbId ∷ Asker.PathId ∷ Asker.InputId ∷ Asker.NetId ∷ []) ≡ Asker.PathId ∷ Asker.NetId ∷ [] }
+    ensures serio { filter (λ who. asks who Kind.Serio) (Asker.UsbId ∷ Asker.PathId ∷ Asker.InputId ∷ Asker.NetId ∷ []) ≡ Asker.PathId ∷ [] }
+    ensures input { filter (λ who. asks who Kind.Input) (Asker.UsbId ∷ Asker.PathId ∷ Asker.InputId ∷ Asker.NetId ∷ []) ≡ Asker.InputId ∷ [] }
 {}

@@ -23,7 +23,8 @@ mod terminals;
 use crate::options::run_words;
 use crate::reporting::report_arguments_fault;
 use crate::terminals::Terminals;
-use devdry_files::RealDisk;
+use devdry_files::{RealDisk, RealSystem};
+use devdry_input::Again;
 use engine_ends::{SinkOver, SourceOver};
 use std::env::{self, VarError};
 use std::io::{self, IsTerminal};
@@ -59,10 +60,10 @@ fn main(rt: HostRuntime) -> ExitCode {
         input: rt.stdin().is_terminal(),
         colors: rt.stderr().is_terminal() && !refuses_colors(&rt),
     };
-    let mut input = SourceOver::new(rt.stdin());
-    let mut output = SinkOver::new(rt.stdout());
-    let mut error = SinkOver::new(rt.stderr());
-    let disk = RealDisk::new(&rt);
+    let mut input = SourceOver::new(Again::new(rt.stdin()));
+    let mut output = SinkOver::new(Again::new(rt.stdout()));
+    let mut error = SinkOver::new(Again::new(rt.stderr()));
+    let disk = RealDisk::new(RealSystem::new(&rt));
     let status = match arguments(&rt) {
         Ok(words) => run_words(
             rt.alloc(),

@@ -1,9 +1,11 @@
 -- Names on a way: what ends before some or after the last, and the first of a path.
-use Rattle.std.proofs.Common.{◌≡◌, ◌==◌, ◌+◌, ◌<◌, ◌∷◌, [], ℕ, List, ap, arith, length, map, refl, subst, suc, sym}
+use Rattle.std.proofs.Common.{◌≡◌, ◌==◌, ◌++◌, ◌+◌, ◌-◌, ◌<◌, ◌∷◌, ◌∙◌, [], ℕ, List, ap, arith, length, map, refl, subst, suc, sym, take}
+use Rattle.std.proofs.Math.Seq.{take-append_seam}
+use Rattle.std.proofs.lemmas.List.{length-append}
 use Rattle.std.proofs.lemmas.List.Splits.{length-slice_split}
 use Rattle.text_bytes.specs.Names.{slash}
 use Rattle.devdry_files.specs.Answers.{Answer}
-use Rattle.devdry_files.specs.Walks.{Leads, LeadsOn, Way, below, max_links, names_in, settled}
+use Rattle.devdry_files.specs.Walks.{Leads, LeadsOn, Way, above, below, max_links, names_in, settled}
 use Rattle.devdry_files.specs.declared.step.End.{End}
 
 -- after the last name an end is as it is
@@ -29,3 +31,9 @@ some_names text [] path none is =
     let no : length (names_in path) ≡ 0 = sym (ap length is) in
     omega (arith, no, length-slice_split (λ b. b == slash) path)
 some_names text (name ∷ names) path none is = omega (arith, none)
+
+-- the folder above the last of some names is that of those before it
+pub above_last : (way : Way) (name : List ℕ) → above (way ++ name ∷ []) ≡ way
+above_last way name =
+    let one_less : length (way ++ name ∷ []) - 1 ≡ length way = omega (arith, length-append way (name ∷ [])) in
+    ap (λ n. take n (way ++ name ∷ [])) one_less ∙ take-append_seam way (name ∷ [])

@@ -1,7 +1,8 @@
 -- What an error of the system means for a disk.
-use Rattle.std.specs.Prelude.{◌≡◌, ◌⊎◌, ◌||◌, ℕ, Bool, true, false, List, None, Option, Some, Result, Ok, Err, map, nat_eq, option_map}
+use Rattle.std.specs.Prelude.{◌≡◌, ◌⊎◌, ◌||◌, ℕ, Bool, true, false, List, None, Option, Some, Result, Ok, Err, codes, map, nat_eq, option_map}
 use Rattle.std.specs.IoError.{error_kind}
 use Rattle.std.specs.List.{ends_with}
+use Rattle.std.specs.Str.{bytes_eq}
 use Rattle.text_bytes.specs.Kinds.{suffix_of}
 use Rattle.text_bytes.specs.declared.source_file.FileKind.TheVariants.{Hwdb, Rules}
 use Rattle.std.specs.Iterator.{YieldsThen}
@@ -22,13 +23,13 @@ fault_from kind.NotFound = Absent
 fault_from kind.OutOfMemory = OutOfMemory
 fault_from _ = Unreadable
 
--- what it means that an entry could not be taken from a folder's listing: a name that is not UTF-8, or what an error
--- of the folder means
-abbrev pub entry_fault_from : ErrorKind → DiskFault
-entry_fault_from kind.InvalidFilename = NotUtf8
-entry_fault_from kind.NotFound = Absent
-entry_fault_from kind.OutOfMemory = OutOfMemory
-entry_fault_from _ = Unreadable
+-- what it means that the names in a folder that was opened could not be read: one is not UTF-8, or what an error of the folder
+-- means
+abbrev pub names_fault_from : ErrorKind → DiskFault
+names_fault_from kind.InvalidFilename = NotUtf8
+names_fault_from kind.NotFound = Absent
+names_fault_from kind.OutOfMemory = OutOfMemory
+names_fault_from _ = Unreadable
 
 -- whether what can't be looked at is a folder: it is none, so that reading it says why; or memory ran out
 abbrev pub unseen_folder : ErrorKind → Result Bool DiskFault
@@ -52,14 +53,16 @@ is_opened look.Folder = true
 is_opened look.File = true
 is_opened _ = false
 
--- a path that ends like the names of rules or of database files
-abbrev pub is_named_as_read : Text → Bool
-is_named_as_read path = ends_with nat_eq path (suffix_of Rules) || ends_with nat_eq path (suffix_of Hwdb)
+-- a path at which what has no end is not opened: one that ends like the names of rules or of database files, and that of the
+-- standard input
+abbrev pub is_never_waited_for : Text → Bool
+is_never_waited_for path =
+    (ends_with nat_eq path (suffix_of Rules) || ends_with nat_eq path (suffix_of Hwdb)) || bytes_eq path (codes "/dev/stdin")
 
 -- whether what a look shows at a path is not opened: what is neither a folder nor a file, such as a FIFO, which would be waited for, at
--- such a name
+-- such a path
 abbrev pub is_refused : Look → Text → Bool
-is_refused look.Other path = is_named_as_read path
+is_refused look.Other path = is_never_waited_for path
 is_refused _ path = false
 
 -- What a look that failed shows, or nothing if memory ran out. Nothing that can be read is below a file, and links
@@ -76,8 +79,7 @@ abbrev pub step_unread : ErrorKind → Option Step
 step_unread kind.InvalidFilename = Some step.OddLink
 step_unread other = option_map step.NoWay (look_from other)
 
--- Why the entries of a listing can't be given: memory ran out, or one could not be taken, after some that could.
-abbrev pub IsEntriesFault : {S A : Type 0} → (S → Option (Result A Error) → S → Type 0) → S → DiskFault → Type 0
-IsEntriesFault {S} {A} next_gives listing fault = (fault ≡ OutOfMemory)
-    ⊎ ((found : List A) × (error : Error) × (later : S)
-    × YieldsThen next_gives listing (map Ok found) (Some (Err error)) later × (fault ≡ entry_fault_from (error_kind error)))
+-- Why the names of a listing can't be given: memory ran out, or an entry could not be taken, after some that could.
+abbrev pub IsNamesFault : {S A : Type 0} → (S → Option (Result A Error) → S → Type 0) → S → Error → Type 0
+IsNamesFault {S} {A} next_gives listing error = (error_kind error ≡ kind.OutOfMemory)
+    ⊎ ((found : List A) × (later : S) × YieldsThen next_gives listing (map Ok found) (Some (Err error)) later)

@@ -1,6 +1,7 @@
 -- What a disk answers about the paths inside a root: what it says of the places that they lead to there.
 use Rattle.std.specs.Prelude.{◌≡◌, ◌++◌, ◌∷◌, ◌⊎◌, ◌==◌, ◌&&◌, ◌≢◌, Bool, true, false, List, [], string_bytes}
 use Rattle.std.specs.List.{AllZip, list_all}
+use Rattle.std.specs.Str.{bytes_eq}
 use Rattle.text_bytes.specs.Text.{Text}
 use Rattle.text_bytes.specs.Names.{slash}
 use Rattle.devdry_files.specs.Answers.{Answer}
@@ -34,35 +35,10 @@ pub record IsEntryIn (may : Answer → Type 0) (root : Text) (way : Way) (own en
   pub leads : LeadsOn may root way (string_bytes own.name ∷ []) it at
   pub is_one : entry.is_folder ≡ is_folder it
 
--- the entries of the folder that a path leads to
-pub record ListsIn (may : Answer → Type 0) (root path : Text) (entries : List Entry) : Type 0 where
-  pub way : Way
-  pub comes : Comes may root path end.Folder way
-  pub own : List Entry
-  pub listed : may (Listing (place_in root way) own)
-  pub each : AllZip (IsEntryIn may root way) own entries
-
 -- why what a path leads to can't be read as a file or a folder, if it is none that could
 abbrev pub unreadable : End → DiskFault
 unreadable (end.NoWay look.Absent) = Absent
 unreadable _ = Unreadable
-
--- why what a path leads to can't be listed
-abbrev pub ListsNotAt : (Answer → Type 0) → Text → End → DiskFault → Type 0
-ListsNotAt may place end.Folder fault = may (NoListing place fault)
-ListsNotAt may place it fault = fault ≡ unreadable it
-
--- what a path leads to has these bytes
-abbrev pub ReadsAt : (Answer → Type 0) → Text → End → Text → Type 0
-ReadsAt may place (end.File identity) bytes = may (OwnContent place identity bytes)
-ReadsAt may place end.Null bytes = bytes ≡ []
-ReadsAt may place _ bytes = ⊥
-
--- why what a path leads to can't be read
-abbrev pub ReadsNotAt : (Answer → Type 0) → Text → End → DiskFault → Type 0
-ReadsNotAt may place (end.File identity) fault = may (NoOwnContent place identity fault)
-ReadsNotAt may place end.Null fault = ⊥
-ReadsNotAt may place it fault = fault ≡ unreadable it
 
 -- both numbers of two identities are the same
 abbrev pub same_identity : Identity → Identity → Bool
@@ -73,10 +49,70 @@ abbrev pub is_file_with : Identity → End → Bool
 is_file_with identity (end.File own) = same_identity own identity
 is_file_with identity _ = false
 
+-- what a path leads to is the folder at this place, by what it leads to and the place of that
+abbrev pub is_folder_at : Text → End → Text → Bool
+is_folder_at place it at = is_folder it && bytes_eq at place
+
+-- this holds for what a path leads to inside a root, and for its place
+abbrev pub LedTo : (Answer → Type 0) → Text → Text → (End → Text → Type 0) → Type 0
+LedTo may root path Holds = (it : End) × (way : Way) × Comes may root path it way × Holds it (place_in root way)
+
+-- whether a path, once the file with an identity was read, leads to that file
+abbrev pub IsStillFile : (Answer → Type 0) → Text → Text → Identity → Bool → Type 0
+IsStillFile may root path identity is_still = LedTo may root path (λ it at. is_still ≡ is_file_with identity it)
+
+-- whether a path, once the folder at a place was listed, leads to that folder
+abbrev pub IsStillFolder : (Answer → Type 0) → Text → Text → Text → Bool → Type 0
+IsStillFolder may root path place is_still = LedTo may root path (λ it at. is_still ≡ is_folder_at place it at)
+
+-- the folder at a way, to which a path still leads once it was listed, has these entries
+pub record ListsFolder (may : Answer → Type 0) (root path : Text) (way : Way) (entries : List Entry) : Type 0 where
+  pub own : List Entry
+  pub listed : may (Listing (place_in root way) own)
+  pub still : IsStillFolder may root path (place_in root way) true
+  pub each : AllZip (IsEntryIn may root way) own entries
+
+-- why the folder at a place can't be listed, given whether a path still leads to it
+abbrev pub ListsNoFolder : (Answer → Type 0) → (Text → Bool → Type 0) → Text → DiskFault → Type 0
+ListsNoFolder may Still place fault = may (NoListing place fault) ⊎ ((fault ≡ Unreadable) × Still place false)
+
+-- the entries of the folder that a path leads to
+abbrev pub ListsIn : (Answer → Type 0) → Text → Text → List Entry → Type 0
+ListsIn may root path entries = (way : Way) × Comes may root path end.Folder way × ListsFolder may root path way entries
+
+-- why what a path leads to can't be listed
+abbrev pub ListsNotAt : (Answer → Type 0) → (Text → Bool → Type 0) → Text → End → DiskFault → Type 0
+ListsNotAt may Still place end.Folder fault = ListsNoFolder may Still place fault
+ListsNotAt may Still place it fault = fault ≡ unreadable it
+
+-- the file with an identity at a place, to which a path still leads once it was read, has these bytes
+abbrev pub ReadsFile : (Answer → Type 0) → (Identity → Bool → Type 0) → Text → Identity → Text → Type 0
+ReadsFile may Still place identity bytes = may (OwnContent place identity bytes) × Still identity true
+
+-- why the file with an identity at a place can't be read, given whether a path still leads to it
+abbrev pub ReadsNoFile : (Answer → Type 0) → (Identity → Bool → Type 0) → Text → Identity → DiskFault → Type 0
+ReadsNoFile may Still place identity fault = may (NoOwnContent place identity fault) ⊎ ((fault ≡ Unreadable) × Still identity false)
+
+-- what a path leads to has these bytes
+abbrev pub ReadsAt : (Answer → Type 0) → (Identity → Bool → Type 0) → Text → End → Text → Type 0
+ReadsAt may Still place (end.File identity) bytes = ReadsFile may Still place identity bytes
+ReadsAt may Still place end.Null bytes = bytes ≡ []
+ReadsAt may Still place _ bytes = ⊥
+
+-- why what a path leads to can't be read
+abbrev pub ReadsNotAt : (Answer → Type 0) → (Identity → Bool → Type 0) → Text → End → DiskFault → Type 0
+ReadsNotAt may Still place (end.File identity) fault = ReadsNoFile may Still place identity fault
+ReadsNotAt may Still place end.Null fault = ⊥
+ReadsNotAt may Still place it fault = fault ≡ unreadable it
+
+-- what a path leads to is the file with an identity and has these bytes
+abbrev pub ReadsOwn : (Answer → Type 0) → (Identity → Bool → Type 0) → Text → Identity → Text → End → Type 0
+ReadsOwn may Still place identity bytes it = (is_file_with identity it ≡ true) × ReadsFile may Still place identity bytes
+
 -- why what a path leads to can't be read as the file with an identity, given whether it is that
-abbrev pub ReadsNotOwn : Bool → (Answer → Type 0) → Text → Identity → DiskFault → Type 0
-ReadsNotOwn true may place identity fault = may (NoOwnContent place identity fault)
-ReadsNotOwn false may place identity fault = fault ≡ Unreadable
+abbrev pub ReadsNotOwn : Bool → (Answer → Type 0) → (Identity → Bool → Type 0) → Text → Identity → DiskFault → Type 0
+ReadsNotOwn true may Still place identity fault = ReadsNoFile may Still place identity fault
+ReadsNotOwn false may Still place identity fault = fault ≡ Unreadable
 
 -- what a look at what a path leads to shows
 abbrev pub LooksAt : (Answer → Type 0) → Text → End → Look → Type 0
@@ -109,21 +145,19 @@ abbrev pub StepsIn : (Answer → Type 0) → Text → Text → Step → Type 0
 StepsIn may root path shown = ((rest : Text) × (path ≡ root ++ rest) × StepsBelow may root rest shown)
     ⊎ (((rest : Text) → path ≢ root ++ rest) × (shown ≡ step.NoWay look.Absent))
 
--- this holds for what a path leads to inside a root, and for its place
-abbrev pub LedTo : (Answer → Type 0) → Text → Text → (End → Text → Type 0) → Type 0
-LedTo may root path Holds = (it : End) × (way : Way) × Comes may root path it way × Holds it (place_in root way)
-
 -- the answers that a disk may give about paths inside a root, given whether that is the root of the running system: then it is asked as it is
 abbrev pub MayBy : Bool → (Answer → Type 0) → Text → Answer → Type 0
 MayBy true may root answer = may answer
 MayBy false may root (Listing path entries) = ListsIn may root path entries
-MayBy false may root (NoListing path fault) = (fault ≡ OutOfMemory) ⊎ LedTo may root path (λ it place. ListsNotAt may place it fault)
-MayBy false may root (Content path bytes) = LedTo may root path (λ it place. ReadsAt may place it bytes)
-MayBy false may root (NoContent path fault) = (fault ≡ OutOfMemory) ⊎ LedTo may root path (λ it place. ReadsNotAt may place it fault)
+MayBy false may root (NoListing path fault) =
+    (fault ≡ OutOfMemory) ⊎ LedTo may root path (λ it place. ListsNotAt may (IsStillFolder may root path) place it fault)
+MayBy false may root (Content path bytes) = LedTo may root path (λ it place. ReadsAt may (IsStillFile may root path) place it bytes)
+MayBy false may root (NoContent path fault) =
+    (fault ≡ OutOfMemory) ⊎ LedTo may root path (λ it place. ReadsNotAt may (IsStillFile may root path) place it fault)
 MayBy false may root (OwnContent path identity bytes) =
-    LedTo may root path (λ it place. (is_file_with identity it ≡ true) × may (OwnContent place identity bytes))
+    LedTo may root path (λ it place. ReadsOwn may (IsStillFile may root path) place identity bytes it)
 MayBy false may root (NoOwnContent path identity fault) =
-    (fault ≡ OutOfMemory) ⊎ LedTo may root path (λ it place. ReadsNotOwn (is_file_with identity it) may place identity fault)
+    (fault ≡ OutOfMemory) ⊎ LedTo may root path (λ it place. ReadsNotOwn (is_file_with identity it) may (IsStillFile may root path) place identity fault)
 MayBy false may root (Looked path shown) = LedTo may root path (λ it place. LooksAt may place it shown)
 MayBy false may root (Stepped path shown) = StepsIn may root path shown
 

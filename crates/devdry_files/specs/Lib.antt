@@ -1,5 +1,6 @@
 pub mod Found
 pub mod Errors
+pub mod Calls
 pub mod Places
 pub mod Answers
 pub mod Walks

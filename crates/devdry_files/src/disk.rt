@@ -2,8 +2,8 @@
 //!
 //! No contract can say what a file of the system holds. So the reading is written over a trait whose ghost member
 //! says which answers the disk may give, and its contracts say how what was read comes from such answers: they hold
-//! for each disk. A disk over memory says just what it answers; the real one allows every answer, and what it adds
-//! is shown only by tests.
+//! for each disk. A disk over memory says just what it answers; that of the system says which replies of the system its
+//! answers come from, and what the system replies is shown only by tests.
 ghost use Rattle.std.specs.IoError.{error_kind};
 ghost use Rattle.std.specs.Prelude.{◌≡◌, IfErr, IfOk};
 ghost use Rattle.devdry_files.specs.Answers.{Answer};

@@ -1,50 +1,55 @@
-//! How the disk of the system steps to a name, and how it reads the file that a step showed.
-//!
-//! What is made from an answer of the system is said by clauses, as in `real_disk`.
-ghost use Rattle.std.specs.Fs.{IsDir, IsFile, file_type};
+//! How the disk of the system steps to a name, and how it knows the file that a step showed: what it makes of the replies
+//! of the system.
 ghost use Rattle.std.specs.IoError.{error_kind};
 ghost use Rattle.std.specs.Path.{path_buf_bytes};
-ghost use Rattle.std.specs.Prelude.{◌≡◌, ◌⊎◌, Err, IfErr, IfOk, IfSome, IsOk, IsOkAnd, MatchResult, Ok, alloc_error, false, if◌then◌else◌, ok_or};
-ghost use Rattle.std.specs.Prelude.{option_map, string_bytes, true};
-ghost use Rattle.devdry_files.specs.Errors.{fault_from, look_from, read_fault_from, step_unread};
-ghost use Rattle.devdry_files.specs.Inside.{same_identity};
+ghost use Rattle.std.specs.Prelude.{◌≡◌, IfOk, MatchResult, alloc_error, ok_or};
+ghost use Rattle.devdry_files.specs.Calls.{IsLinkStep, IsStep, identity_of, is_link, is_own, step_of};
+ghost use Rattle.devdry_files.specs.Errors.{step_unread};
 ghost use Rattle.devdry_files.specs.Memory.{LinksTo};
-ghost use Rattle.devdry_files.specs.declared.disk.DiskFault.TheVariants.{OutOfMemory, Unreadable};
 
-use crate::disk::DiskFault;
 use crate::look::Look;
-use crate::real_disk::{bytes_from, read_fault};
-use crate::real_looks::{failed_look, is_null};
+use crate::real_looks::{NULL_DEVICE, failed_look};
 use crate::step::{Identity, Step};
-use std::alloc::{AllocError, Global};
-use std::fs::{self, File, Metadata, OpenFile};
-use std::io::{self, Read};
-use std::os::unix::fs::{FileTypeExt, MetadataExt};
+use crate::system::{Node, NodeKind, System};
+use std::alloc::AllocError;
+use std::io;
 use std::path::PathBuf;
-use std::rt::Files;
-use text_bytes::Bytes;
 
 /// The identity of a file.
-fn identity_of(metadata: &Metadata) -> Identity {
+fn identity_of(node: &Node) -> Identity
+    ensures { result ≡ identity_of node.now }
+{
     Identity {
-        device: metadata.dev(),
-        number: metadata.ino(),
+        device: node.file_system,
+        number: node.number,
     }
 }
 
-/// What a step shows where there is no symlink, by what the system says about it, and whether it is the null device.
-fn step_of(metadata: &Metadata, is_null: bool, identity: Identity) -> Step
-    ensures folder { IsDir (file_type metadata.now) → result ≡ Step.Folder }
-    ensures file { IsFile (file_type metadata.now) → result ≡ Step.File identity }
-    ensures other { (IsDir (file_type metadata.now) → ⊥) → (IsFile (file_type metadata.now) → ⊥)
-        → result ≡ (if is_null then Step.File identity else Step.NoWay Look.Other) }
+/// Whether something is a symlink.
+fn is_link(kind: NodeKind) -> bool
+    ensures { result ≡ is_link kind }
 {
-    if metadata.is_dir() {
-        Step::Folder
-    } else if metadata.is_file() || is_null {
-        Step::File(identity)
-    } else {
-        Step::NoWay(Look::Other)
+    matches!(kind, NodeKind::Link)
+}
+
+/// What a step shows where there is no symlink.
+fn step_of(node: &Node) -> Step
+    ensures { result ≡ step_of node.now }
+{
+    match node.kind {
+        NodeKind::Folder => Step::Folder,
+        NodeKind::File | NodeKind::Device(NULL_DEVICE) => Step::File(identity_of(node)),
+        NodeKind::Link | NodeKind::Device(_) | NodeKind::Other => Step::NoWay(Look::Other),
+    }
+}
+
+/// Whether what was opened is the file with an identity: one that a step would show as that.
+pub(crate) fn is_own(node: &Node, identity: Identity) -> bool
+    ensures { result ≡ is_own node.now identity }
+{
+    match step_of(node) {
+        Step::File(own) => own == identity,
+        _ => false,
     }
 }
 
@@ -62,83 +67,20 @@ fn link_from(read: io::Result<PathBuf>) -> Result<Step, AllocError>
     }
 }
 
+/// What a step shows at a symlink.
+fn link_at<S: System>(system: &S, path: &str) -> Result<Step, AllocError>
+    ensures { IfOk result (IsLinkStep (S.may_reply system.now) path.now) }
+{
+    link_from(system.link(path))
+}
+
 /// What is at a path, with no symlink followed at its end.
-pub(crate) fn step_at<R: Files + AllocGlobal>(rt: &R, path: &str) -> Result<Step, AllocError> {
-    match fs::symlink_metadata(rt, path) {
-        Ok(metadata) if metadata.is_symlink() => link_from(fs::read_link(rt, path)),
-        Ok(metadata) => {
-            let is_null = is_null(metadata.file_type().is_char_device(), metadata.rdev());
-            Ok(step_of(&metadata, is_null, identity_of(&metadata)))
-        }
+pub(crate) fn step_at<S: System>(system: &S, path: &str) -> Result<Step, AllocError>
+    ensures { IfOk result (IsStep (S.may_reply system.now) path.now) }
+{
+    match system.look_last(path) {
+        Ok(node) if is_link(node.kind) => link_at(system, path),
+        Ok(node) => Ok(step_of(&node)),
         Err(error) => failed_look(&error).map(Step::NoWay).ok_or(AllocError),
-    }
-}
-
-/// The identity of what was opened, by what the system says about it, or why that can't be told.
-fn identity_from(looked: io::Result<Metadata>) -> io::Result<Identity>
-    ensures told { IfOk looked (λ _. IsOk result) }
-    ensures untold { IfErr looked (λ error. result ≡ Err error) }
-{
-    match looked {
-        Ok(metadata) => Ok(identity_of(&metadata)),
-        Err(error) => Err(error),
-    }
-}
-
-/// Whether what was opened is the file with an identity, by its own identity, or why that can't be told.
-fn is_own(opened: io::Result<Identity>, identity: Identity) -> Result<bool, DiskFault>
-    ensures { MatchResult opened (λ own. result ≡ Ok (same_identity own identity))
-        (λ error. result ≡ Err (read_fault_from (error_kind error))) }
-{
-    match opened {
-        Ok(own) => Ok(own == identity),
-        Err(error) => Err(read_fault(error)),
-    }
-}
-
-/// The bytes of a file that was opened, if it is the one with an identity, or why they can't be read.
-pub(crate) fn own_bytes_from<F: Read + OpenFile + Drop>(
-    alloc: Global,
-    opened: io::Result<F>,
-    identity: Identity,
-) -> Result<Bytes, DiskFault>
-    ensures fault { MatchResult opened
-        (λ _. IfErr result (λ fault. (fault ≡ Unreadable) ⊎ (fault ≡ OutOfMemory)))
-        (λ error. result ≡ Err (fault_from (error_kind error))) }
-{
-    match opened {
-        Ok(file) => own_bytes_of(alloc, file, identity),
-        Err(error) => Err(DiskFault::from(error)),
-    }
-}
-
-/// The bytes of a file, if it is the one with an identity, or why they can't be read.
-fn own_bytes_of<F: Read + OpenFile + Drop>(
-    alloc: Global,
-    file: F,
-    identity: Identity,
-) -> Result<Bytes, DiskFault>
-    ensures { IfErr result (λ fault. (fault ≡ Unreadable) ⊎ (fault ≡ OutOfMemory)) }
-{
-    let own = identity_from(file.metadata());
-    own_bytes_by(alloc, file, own, identity)
-}
-
-/// The bytes of a file with an identity of its own, if that is the other one, or why they can't be read.
-fn own_bytes_by<F: Read + Drop>(
-    alloc: Global,
-    file: F,
-    own: io::Result<Identity>,
-    identity: Identity,
-) -> Result<Bytes, DiskFault>
-    ensures own { IfOk result (λ _. IsOkAnd own (λ it. same_identity it identity ≡ true)) }
-    ensures bytes { IfOk result (λ read. IfSome (F.remaining file) (λ bytes. read ≡ bytes)) }
-    ensures other { IfOk own (λ it. same_identity it identity ≡ false → result ≡ Err Unreadable) }
-    ensures fault { IfErr result (λ fault. (fault ≡ Unreadable) ⊎ (fault ≡ OutOfMemory)) }
-{
-    if is_own(own, identity)? {
-        bytes_from(alloc, Ok(file))
-    } else {
-        Err(DiskFault::Unreadable)
     }
 }

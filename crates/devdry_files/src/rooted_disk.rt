@@ -1,11 +1,13 @@
 //! A disk inside a root: each path is followed below the root, and nothing outside is seen.
-ghost use Rattle.std.specs.Prelude.{◌≡◌, ◌≢◌, ◌++◌, ◌∷◌, [], IfErr, IfOk, MatchOption, false, map, string_bytes};
+ghost use Rattle.std.specs.Prelude.{◌≡◌, ◌≢◌, ◌++◌, ◌∷◌, ◌⊎◌, [], IfErr, IfOk, MatchOption, false, map, string_bytes};
 ghost use Rattle.std.specs.List.{AllZip};
 ghost use Rattle.text_bytes.specs.Text.{Text};
 ghost use Rattle.devdry_files.specs.Answers.Answer.{Content, NoContent, NoListing, NoOwnContent, OwnContent, Looked, Stepped};
-ghost use Rattle.devdry_files.specs.Inside.{IsEntryIn, ListsIn, MayBy, MayInside, StepsAt, StepsBelow, StepsPast, is_file_with, is_folder};
-ghost use Rattle.devdry_files.specs.Inside.{is_own_root, unreadable};
-ghost use Rattle.devdry_files.specs.Walks.{Comes, LeadsOn};
+ghost use Rattle.devdry_files.specs.Inside.{IsEntryIn, IsStillFile, IsStillFolder, ListsFolder, ListsIn, ListsNoFolder, MayBy, MayInside};
+ghost use Rattle.devdry_files.specs.Inside.{ReadsFile, ReadsNoFile, StepsAt, StepsBelow, StepsPast};
+ghost use Rattle.devdry_files.specs.Inside.{is_file_with, is_folder, is_own_root, unreadable};
+ghost use Rattle.devdry_files.specs.declared.disk.DiskFault.TheVariants.{OutOfMemory};
+ghost use Rattle.devdry_files.specs.Walks.{Comes, LeadsOn, place_in};
 
 use crate::disk::{Disk, DiskFault, Entry};
 use crate::look::Look;
@@ -157,6 +159,81 @@ fn is_file_with(identity: Identity, end: End) -> bool
     }
 }
 
+/// Whether a path still leads to the file with an identity inside a root.
+fn still_is_file<D: Disk>(
+    alloc: Global,
+    disk: &D,
+    root: &str,
+    path: &str,
+    identity: Identity,
+) -> Result<bool, AllocError>
+    ensures { IfOk result (IsStillFile (D.may_answer disk.now) root.now path.now identity) }
+{
+    let found = found_at(alloc, disk, root, path)?;
+    Ok(is_file_with(identity, found.end))
+}
+
+/// Whether a path still leads to the folder at a place inside a root.
+fn still_leads_to<D: Disk>(
+    alloc: Global,
+    disk: &D,
+    root: &str,
+    path: &str,
+    place: &str,
+) -> Result<bool, AllocError>
+    ensures { IfOk result (IsStillFolder (D.may_answer disk.now) root.now path.now place.now) }
+{
+    let Found { end, way } = found_at(alloc, disk, root, path)?;
+    let at = place_in(alloc, root, &way)?;
+    Ok(is_folder(end) && at.as_str() == place)
+}
+
+/// The entries of the folder at the place that a way comes to, if a path still leads to it once it was listed: else another was
+/// put in its place, or in that of a folder on the way.
+fn list_folder_at<D: Disk>(
+    alloc: Global,
+    disk: &D,
+    root: &str,
+    path: &str,
+    way: &[String],
+) -> Result<Vec<Entry>, DiskFault>
+    ensures listed { IfOk result (λ entries. ListsFolder (D.may_answer disk.now) root.now path.now (map string_bytes way.now) entries.items) }
+    ensures fault { IfErr result (λ fault. (fault ≡ OutOfMemory) ⊎ ListsNoFolder (D.may_answer disk.now)
+        (IsStillFolder (D.may_answer disk.now) root.now path.now) (place_in root.now (map string_bytes way.now)) fault) }
+{
+    let place = place_in(alloc, root, way)?;
+    let own = disk.list(alloc, place.as_str())?;
+    if still_leads_to(alloc, disk, root, path, place.as_str())? {
+        Ok(entries_in(alloc, disk, root, way, &own)?)
+    } else {
+        Err(DiskFault::Unreadable)
+    }
+}
+
+/// The bytes of the file with an identity at the place that a way comes to, if a path still leads to it once they were read:
+/// else another was put in its place, or in that of a folder on the way.
+fn read_file_at<D: Disk>(
+    alloc: Global,
+    disk: &D,
+    root: &str,
+    path: &str,
+    way: &[String],
+    identity: Identity,
+) -> Result<Bytes, DiskFault>
+    ensures read { IfOk result (λ bytes. ReadsFile (D.may_answer disk.now) (IsStillFile (D.may_answer disk.now) root.now path.now)
+        (place_in root.now (map string_bytes way.now)) identity bytes) }
+    ensures fault { IfErr result (λ fault. (fault ≡ OutOfMemory) ⊎ ReadsNoFile (D.may_answer disk.now)
+        (IsStillFile (D.may_answer disk.now) root.now path.now) (place_in root.now (map string_bytes way.now)) identity fault) }
+{
+    let place = place_in(alloc, root, way)?;
+    let bytes = disk.read_own(alloc, place.as_str(), identity)?;
+    if still_is_file(alloc, disk, root, path, identity)? {
+        Ok(bytes)
+    } else {
+        Err(DiskFault::Unreadable)
+    }
+}
+
 /// The entries of the folder that a path leads to inside a root.
 fn list_in<D: Disk>(
     alloc: Global,
@@ -169,11 +246,7 @@ fn list_in<D: Disk>(
 {
     let Found { end, way } = found_at(alloc, disk, root, path)?;
     match end {
-        End::Folder => {
-            let place = place_in(alloc, root, &way)?;
-            let own = disk.list(alloc, place.as_str())?;
-            Ok(entries_in(alloc, disk, root, &way, &own)?)
-        }
+        End::Folder => list_folder_at(alloc, disk, root, path, &way),
         _ => Err(unreadable(end)),
     }
 }
@@ -185,10 +258,7 @@ fn read_in<D: Disk>(alloc: Global, disk: &D, root: &str, path: &str) -> Result<B
 {
     let Found { end, way } = found_at(alloc, disk, root, path)?;
     match end {
-        End::File(identity) => {
-            let place = place_in(alloc, root, &way)?;
-            disk.read_own(alloc, place.as_str(), identity)
-        }
+        End::File(identity) => read_file_at(alloc, disk, root, path, &way, identity),
         End::Null => Ok(Bytes::new(Vec::new(alloc))),
         _ => Err(unreadable(end)),
     }
@@ -207,8 +277,7 @@ fn read_own_in<D: Disk>(
 {
     let Found { end, way } = found_at(alloc, disk, root, path)?;
     if is_file_with(identity, end) {
-        let place = place_in(alloc, root, &way)?;
-        disk.read_own(alloc, place.as_str(), identity)
+        read_file_at(alloc, disk, root, path, &way, identity)
     } else {
         Err(DiskFault::Unreadable)
     }

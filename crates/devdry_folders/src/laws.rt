@@ -1,10 +1,11 @@
 //! Laws of what is reported, each the contract of a function with an empty body.
-ghost use Rattle.std.specs.Prelude.{◌≡◌, ◌==◌, ◌++◌, [], ℕ, Bool, List, codes, if◌then◌else◌, length, map, nat_eq, not, true};
+ghost use Rattle.std.specs.Prelude.{◌≡◌, ◌==◌, ◌++◌, ◌∷◌, [], ℕ, Bool, List, codes, if◌then◌else◌, length, map, nat_eq, not, true};
 ghost use Rattle.std.specs.List.{ends_with, find};
 ghost use Rattle.text_bytes.specs.Text.{Text};
 ghost use Rattle.text_bytes.specs.FileOrder.{ordered};
 ghost use Rattle.text_bytes.specs.Kinds.{suffix_of};
 ghost use Rattle.text_bytes.specs.declared.source_file.FileKind as kinds;
+ghost use Rattle.text_bytes.specs.declared.source_file.FileKind.TheVariants.{Rules};
 ghost use Rattle.text_tables.specs.Texts.{same_text};
 ghost use Rattle.devdry_files.specs.Walks.{Leads, Way};
 ghost use Rattle.devdry_files.specs.declared.step.End.{End};
@@ -12,12 +13,13 @@ ghost use Rattle.devdry_folders.specs.Laws.{AreOneFile, RanksRise, all_reasons, 
 ghost use Rattle.devdry_folders.specs.Missing.{has_needed};
 ghost use Rattle.devdry_folders.specs.Reasons.{advice_on, wrong_by};
 ghost use Rattle.devdry_folders.specs.Nothing.{nothing_lines};
-ghost use Rattle.devdry_folders.specs.SightStatus.{AreByName, counting, sights_of};
+ghost use Rattle.devdry_folders.specs.SightStatus.{AreByName, counting, sights_of, status_lines};
 ghost use Rattle.devdry_folders.specs.Staying.{IsInside};
 ghost use Rattle.devdry_folders.specs.Surveys.{all_unread};
 ghost use Rattle.devdry_folders.specs.Unread.{has_files, least_status, unread_said};
 ghost use Rattle.devdry_folders.specs.declared.elsewhere.Elsewhere.{Elsewhere};
 ghost use Rattle.devdry_folders.specs.declared.reasons.Reason.TheVariants as reasons;
+ghost use Rattle.devdry_folders.specs.declared.sights.Met.TheVariants as met;
 ghost use Rattle.devdry_folders.specs.declared.sights.Sight as seen;
 ghost use Rattle.devdry_folders.specs.declared.sights.Survey as surveys;
 ghost use Rattle.devdry_folders.specs.declared.sights.Visit as visited;
@@ -54,6 +56,18 @@ pub fn the_file_that_counts_is_the_one_that_is_read()
     ensures { (kind : kinds.FileKind) (visits : List visited.Visit) (sights : List seen.Sight) (name : Text)
         → RanksRise kind 0 visits → AreByName (sights_of kind visits) sights → ends_with nat_eq name (suffix_of kind) ≡ true
         → AreOneFile visits (counting sights name) (find (λ file. same_text name file.name) (ordered (suffix_of kind) (files_of_kind kind visits))) }
+{}
+
+/// A file that counts is told as used, or as masked if it is empty, and another of its name as hidden by it.
+pub fn files_are_told_as_what_they_are()
+    ensures masked { status_lines Rules
+        (record { name = codes "a.rules"; path = codes "/etc/a.rules"; met = met.File [] } ∷ []) ≡ codes "/etc/a.rules: masked\n" }
+    ensures used { status_lines Rules
+        (record { name = codes "a.rules"; path = codes "/etc/a.rules"; met = met.File (codes "x") } ∷ []) ≡ codes "/etc/a.rules: used\n" }
+    ensures hidden { status_lines Rules
+        (record { name = codes "a.rules"; path = codes "/etc/a.rules"; met = met.File [] }
+        ∷ record { name = codes "a.rules"; path = codes "/usr/a.rules"; met = met.File (codes "x") } ∷ [])
+        ≡ codes "/etc/a.rules: masked\n/usr/a.rules: hidden by /etc/a.rules\n" }
 {}
 
 /// Each reason has a sentence of its own on what is wrong, and one on what to do, and none of them is empty.

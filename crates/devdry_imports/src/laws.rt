@@ -1,13 +1,15 @@
 //! What is true of the files that rules import, whatever a disk answers.
 //!
 //! Each function here is empty: its contract is the law.
-ghost use Rattle.std.specs.Prelude.{◌≡◌, ◌∷◌, [], None, Some, codes, false, true};
+ghost use Rattle.std.specs.Prelude.{◌≡◌, ◌∷◌, [], Contains, List, None, Some, codes, false, true};
 ghost use Rattle.text_bytes.specs.Text.{Text};
 ghost use Rattle.rule_templates.specs.declared.piece.Piece.TheVariants.{Kernel, Plain};
+ghost use Rattle.rule_types.specs.Rules.{Rule};
+ghost use Rattle.rule_types.specs.declared.part.Act.{Act};
 ghost use Rattle.builtin_knowledge.specs.declared.root_files.RootFile.TheVariants.{Absent, Read};
 ghost use Rattle.devdry_files.specs.Answers.Answer.{Content, Looked};
 ghost use Rattle.devdry_files.specs.declared.look.Look.TheVariants as look;
-ghost use Rattle.devdry_imports.specs.Naming.{mentions, path_of_pieces};
+ghost use Rattle.devdry_imports.specs.Naming.{mentions, path_of_kind, path_of_pieces, paths_of};
 ghost use Rattle.devdry_imports.specs.Reading.{IsFound};
 
 use devdry_files::Disk;
@@ -19,6 +21,13 @@ pub fn files_are_named_in_full()
     ensures rendered { path_of_pieces (Plain (codes "/run/") ∷ Kernel ∷ []) ≡ None }
     ensures mentioned { mentions (codes "A, IMPORT{file}=x") ≡ true }
     ensures unmentioned { mentions (codes "A, IMPORT{files}=x") ≡ false }
+{}
+
+/// Each act of each rule that imports a file by a path in full has that path among those that are looked at, whatever else its
+/// rule does.
+pub fn each_import_is_looked_at()
+    ensures { (rules : List Rule) (rule : Rule) (act : Act) (path : Text) → Contains rules rule → Contains rule.acts act
+        → path_of_kind act.kind ≡ Some path → Contains (paths_of rules) path }
 {}
 
 /// A file that a disk shows and reads is found with its bytes, and a path at which it shows nothing is found to be empty.

@@ -4,10 +4,12 @@
 //! its name, so that no crate that reads files knows of it.
 #![tactic(auto)]
 
+mod again;
 mod disk;
 mod laws;
 mod reading;
 
+pub use again::Again;
 pub use disk::InputDisk;
 pub use laws::{all_else_is_answered_by_the_disk, the_input_is_a_file};
 pub use reading::{InputFault, read_whole};

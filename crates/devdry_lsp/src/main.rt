@@ -10,6 +10,7 @@ mod running;
 mod words;
 
 use crate::running::{report_arguments_fault, run_words};
+use devdry_input::Again;
 use engine_ends::{SinkOver, SourceOver};
 use std::process::ExitCode;
 use std::rt::Env;
@@ -31,9 +32,9 @@ fn arguments<R: Env + AllocGlobal>(rt: &R) -> io::Result<Vec<String>> {
 }
 
 fn main(rt: HostRuntime) -> ExitCode {
-    let mut input = SourceOver::new(rt.stdin());
-    let mut output = SinkOver::new(rt.stdout());
-    let mut error = SinkOver::new(rt.stderr());
+    let mut input = SourceOver::new(Again::new(rt.stdin()));
+    let mut output = SinkOver::new(Again::new(rt.stdout()));
+    let mut error = SinkOver::new(Again::new(rt.stderr()));
     let status = match arguments(&rt) {
         Ok(words) => run_words(rt.alloc(), &words, &mut input, &mut output, &mut error),
         Err(fault) => report_arguments_fault(&fault, &mut error),

@@ -1,8 +1,7 @@
 //! What is true of files of options.
 //!
-//! Each function here is empty: its contract is the law. That a text is UTF-8 is a premise where a line has to be.
+//! Each function here is empty: its contract is the law.
 ghost use Rattle.std.specs.Prelude.{◌≡◌, ◌∷◌, None, Some, [], codes, false, true};
-ghost use Rattle.std.specs.Str.{is_utf8};
 ghost use Rattle.devdry_options.specs.Files.{bad_line, words_of};
 ghost use Rattle.devdry_options.specs.Words.{is_option, is_word};
 
@@ -22,13 +21,12 @@ pub fn options_have_their_values()
 
 /// The words of a file: blanks around them, empty lines and comments are left out, and a control character makes a line bad.
 pub fn lines_are_words()
-    ensures words { is_utf8 (codes "--lint") ≡ true → is_utf8 (codes "--ignore=S2") ≡ true
-        → words_of (codes "# ours\n --lint\t\r\n\n--ignore=S2") ≡ codes "--lint" ∷ codes "--ignore=S2" ∷ [] }
-    ensures control { is_utf8 (codes "--root=/a\tb") ≡ true → is_word (codes "--root=/a\tb") ≡ false }
+    ensures words { words_of (codes "# ours\n --lint\t\r\n\n--ignore=S2") ≡ codes "--lint" ∷ codes "--ignore=S2" ∷ [] }
+    ensures control { is_word (codes "--root=/a\tb") ≡ false }
 {}
 
 /// The first bad line of a file is the one that counts.
 pub fn lines_that_are_bad()
-    ensures one { is_utf8 (codes "--lint") ≡ true → bad_line (codes "--lint\n lint\n-s\n") ≡ Some (record { number = 2; text = codes " lint" }) }
-    ensures none { is_utf8 (codes "--lint") ≡ true → bad_line (codes "#-s\n\n--lint\n") ≡ None }
+    ensures one { bad_line (codes "--lint\n lint\n-s\n") ≡ Some (record { number = 2; text = codes " lint" }) }
+    ensures none { bad_line (codes "#-s\n\n--lint\n") ≡ None }
 {}

@@ -9,14 +9,15 @@ use Rattle.text_bytes.specs.Lines.{lines}
 use Rattle.text_bytes.specs.Names.{caret, newline, space, tab}
 use Rattle.text_bytes.specs.Texts.{up_to as first_part}
 use Rattle.engine_formats.specs.Diagnostics.{DiagnosticValue}
-use Rattle.engine_formats.specs.Human.{advice_line, continues, first_start, human_lines, mark_line, safe_lines, shown_byte, source_line, source_lines, tilde, title_line, under, window, window_start}
-use Rattle.engine_formats.specs.Masked.{masked, masked_after, safe}
+use Rattle.engine_formats.specs.Human.{advice_line, continues, first_start, human_lines, mark_line, shown_byte, source_line, source_lines, tilde, title_line, under, window, window_start, with_masked_path}
+use Rattle.engine_formats.specs.Masked.{masked}
 use Rattle.engine_formats.specs.Marks.{PointsAt, columns, columns_from, line_after}
 use Rattle.engine_formats.specs.Paints.{escape_code, paint_of, paint_start, paint_stop}
 use Rattle.engine_formats.specs.Readers.{HasPlace}
 use Rattle.engine_formats.specs.declared.paint.Paint.{Paint}
 use Rattle.engine_formats.specs.declared.paint.Paint.TheVariants.{Unpainted, Red, Yellow}
-use Rattle.engine_formats.proofs.Counted.{IsLine, mark_body, mark_body_lacks, safe_place, shown_lacks, title_is_line}
+use Rattle.engine_formats.proofs.Counted.{IsLine, mark_body, mark_body_lacks, masked_place, shown_lacks, title_is_line}
+use Rattle.engine_formats.proofs.Masking.{masked_length}
 use Rattle.engine_formats.proofs.OneLine.{Lacks, first_line_is, lacks-append, up_to}
 
 -- a byte as it is shown takes the columns that the byte has of its own
@@ -93,13 +94,17 @@ window_is_near source column h = by_test (first_start source column) refl where
       omega (arith, prefix_len-le-length continues (take 3 (drop (suc n) source)), length-take 3 (drop (suc n) source)) in
       rw (ne_eqb (suc n) 0 (λ same. omega arith)) (record { before = omega (arith, e, skipped); room = λ far. omega (arith, e, h, skipped, far); most = omega (arith, e, h, skipped) })
 
+-- where the part of its line begins that is shown
+abbrev start_of : DiagnosticValue → ℕ
+start_of d = window_start (masked d.source) d.column
+
 -- how many bytes are shown before a place
 abbrev count_before : DiagnosticValue → ℕ
-count_before d = d.column - 1 - window_start d.source d.column
+count_before d = d.column - 1 - start_of d
 
 -- the part of its line that is shown
 abbrev part_of : DiagnosticValue → List ℕ
-part_of d = window d.source (window_start d.source d.column)
+part_of d = window (masked d.source) (start_of d)
 
 -- the line that is shown
 abbrev shown_line : DiagnosticValue → List ℕ
@@ -114,8 +119,8 @@ first_of body rest h = ap lines (append_assoc body (newline ∷ []) rest) ∙ fi
 
 -- the lines of a diagnostic, one by one
 four_lines : (in_color : Bool) (d : DiagnosticValue) → HasPlace d
-    → (title : List ℕ) × (lines (safe_lines in_color d) ≡ title ∷ shown_line d ∷ marks_of in_color d ∷ lines (advice_line d))
-unfolding safe_lines source_lines source_line mark_line mark_body IsLine
+    → (title : List ℕ) × (lines (human_lines in_color d) ≡ title ∷ shown_line d ∷ marks_of in_color d ∷ lines (advice_line d))
+unfolding human_lines source_lines source_line mark_line mark_body IsLine
 four_lines in_color d h =
     let paint : Paint = paint_of in_color d.remark in
     let advice : List ℕ = advice_line d in
@@ -123,10 +128,10 @@ four_lines in_color d h =
     let marks : List ℕ = marks_of in_color d in
     let ended : List ℕ = shown ++ newline ∷ [] in
     let marked : List ℕ = marks ++ newline ∷ [] in
-    let line = title_is_line paint d h in
+    let line = title_is_line paint (with_masked_path d) (masked_place d h) in
     let lacks = lacks-append newline (codes "  ") (map shown_byte (part_of d)) refl (shown_lacks (part_of d)) in (
       line.0,
-      ap lines (append_assoc (title_line paint d) (ended ++ marked) advice ∙ ap (λ (t : List ℕ). title_line paint d ++ t) (append_assoc ended marked advice))
+      ap lines (append_assoc (title_line paint (with_masked_path d)) (ended ++ marked) advice ∙ ap (λ (t : List ℕ). title_line paint (with_masked_path d) ++ t) (append_assoc ended marked advice))
           ∙ ap (λ (t : List ℕ). lines (t ++ (ended ++ (marked ++ advice)))) line.2
           ∙ first_of line.0 (ended ++ (marked ++ advice)) line.1
           ∙ ap (λ (ls : List (List ℕ)). line.0 ∷ ls) (first_of shown (marked ++ advice) lacks
@@ -162,25 +167,27 @@ from_place source column start near =
     ∙ ap (take (160 - count)) (drop-drop count start source ∙ ap (λ (n : ℕ). drop n source) at)
     ∙ enough source column count near.room near.most
 
-safe_points : (in_color : Bool) (d : DiagnosticValue) → HasPlace d → d.column ≤ length d.source + 1
-    → PointsAt d.source d.column (line_after 1 (safe_lines in_color d)) (line_after 2 (safe_lines in_color d))
-safe_points in_color d h within =
-    let start : ℕ = window_start d.source d.column in
+pub caret_points : (in_color : Bool) (d : DiagnosticValue) → HasPlace d → d.column ≤ length d.source + 1
+    → PointsAt (masked d.source) d.column (line_after 1 (human_lines in_color d)) (line_after 2 (human_lines in_color d))
+caret_points in_color d h within =
+    let source : List ℕ = masked d.source in
+    let inside : d.column ≤ length source + 1 = omega (arith, within, masked_length 0 0 d.source) in
+    let start : ℕ = start_of d in
     let count : ℕ = count_before d in
     let part : List ℕ = part_of d in
     let room : ℕ = suc (159 - count) in
     let split = four_lines in_color d h in
-    let halves : map shown_byte part ≡ map shown_byte (take count part) ++ map shown_byte (take room (drop (d.column - 1) d.source)) =
+    let halves : map shown_byte part ≡ map shown_byte (take count part) ++ map shown_byte (take room (drop (d.column - 1) source)) =
     ap (map shown_byte) (sym (take-append-drop count part)) ∙ map-append shown_byte (take count part) (drop count part)
-    ∙ ap (λ (t : List ℕ). map shown_byte (take count part) ++ map shown_byte t) (from_place d.source d.column start (window_is_near d.source d.column within)) in
-    let points : PointsAt d.source d.column (shown_line d) (marks_of in_color d) = record {
+    ∙ ap (λ (t : List ℕ). map shown_byte (take count part) ++ map shown_byte t) (from_place source d.column start (window_is_near source d.column inside)) in
+    let points : PointsAt source d.column (shown_line d) (marks_of in_color d) = record {
       before = codes "  " ++ map shown_byte (take count part);
       room = room;
       some = omega arith;
       place = ap (λ (t : List ℕ). codes "  " ++ t) halves;
       below = below (paint_of in_color d.remark) (take count part) (take (d.end - d.column) (drop count part));
     } in
-    subst₂ (λ (shown marks : List ℕ). PointsAt d.source d.column shown marks)
+    subst₂ (λ (shown marks : List ℕ). PointsAt source d.column shown marks)
     (sym (ap (λ (ls : List (List ℕ)). slice_index_or ls 1 []) split.1)) (sym (ap (λ (ls : List (List ℕ)). slice_index_or ls 2 []) split.1)) points
 
 from_the_start : (source : List ℕ) (column : ℕ) → length source ≤ 160 → window_start source column ≡ 0
@@ -189,22 +196,11 @@ from_the_start source column short =
     let none : first_start source column ≡ 0 = omega (arith, short) in
     ap (λ (n : ℕ). cond (eqb n 0) 0 (n + prefix_len continues (take 3 (drop n source)))) none
 
-safe_whole : (in_color : Bool) (d : DiagnosticValue) → HasPlace d → length d.source ≤ 160
-    → line_after 1 (safe_lines in_color d) ≡ codes "  " ++ map shown_byte d.source
-safe_whole in_color d h short =
-    ap (λ (ls : List (List ℕ)). slice_index_or ls 1 []) (four_lines in_color d h).1
-    ∙ ap (λ (n : ℕ). codes "  " ++ map shown_byte (window d.source n)) (from_the_start d.source d.column short)
-    ∙ ap (λ (t : List ℕ). codes "  " ++ map shown_byte t) (take_all 160 d.source short)
-
--- a text is as long where it is shown
-masked_length : (before last : ℕ) (text : List ℕ) → length (masked_after before last text) ≡ length text
-masked_length before last [] = refl
-masked_length before last (b ∷ text) = ap suc (masked_length last b text)
-
-pub caret_points : (in_color : Bool) (d : DiagnosticValue) → HasPlace d → d.column ≤ length d.source + 1
-    → PointsAt (masked d.source) d.column (line_after 1 (human_lines in_color d)) (line_after 2 (human_lines in_color d))
-caret_points in_color d h within = safe_points in_color (safe d) (safe_place d h) (omega (arith, within, masked_length 0 0 d.source))
-
 pub whole_shown : (in_color : Bool) (d : DiagnosticValue) → HasPlace d → length d.source ≤ 160
     → line_after 1 (human_lines in_color d) ≡ codes "  " ++ map shown_byte (masked d.source)
-whole_shown in_color d h short = safe_whole in_color (safe d) (safe_place d h) (omega (arith, short, masked_length 0 0 d.source))
+whole_shown in_color d h short =
+    let source : List ℕ = masked d.source in
+    let few : length source ≤ 160 = omega (arith, short, masked_length 0 0 d.source) in
+    ap (λ (ls : List (List ℕ)). slice_index_or ls 1 []) (four_lines in_color d h).1
+    ∙ ap (λ (n : ℕ). codes "  " ++ map shown_byte (window source n)) (from_the_start source d.column few)
+    ∙ ap (λ (t : List ℕ). codes "  " ++ map shown_byte t) (take_all 160 source few)

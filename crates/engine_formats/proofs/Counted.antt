@@ -12,9 +12,9 @@ use Rattle.engine_formats.specs.Diagnostics.{DiagnosticValue}
 use Rattle.engine_formats.specs.Github.{github_line, github_place, github_property, github_text}
 use Rattle.engine_formats.specs.Hints.{advice_by, advice_for, advice_on_comma, advice_with, byte_order_mark, is_at_end, no_break_space}
 use Rattle.engine_formats.specs.Meant.{meant_as}
-use Rattle.engine_formats.specs.Human.{advice_line, continues, human_lines, mark_line, safe_lines, shown_byte, source_line, source_lines, tilde, title_line, under, window, window_start}
+use Rattle.engine_formats.specs.Human.{advice_line, continues, human_lines, mark_line, shown_byte, source_line, source_lines, tilde, title_line, under, window, window_start, with_masked_path}
 use Rattle.engine_formats.specs.Lines.{code_part, gcc_line, plain_line, spot_of}
-use Rattle.engine_formats.specs.Masked.{safe}
+use Rattle.engine_formats.specs.Masked.{masked}
 use Rattle.engine_formats.specs.Paints.{paint_of, paint_start, paint_stop}
 use Rattle.engine_formats.specs.Readers.{HasPlace, ends_line, ends_property}
 use Rattle.engine_formats.specs.Remarks.{code_of, remark_heading, severity_of, severity_word, text_of}
@@ -293,26 +293,27 @@ advice_is_line : (d : DiagnosticValue) → IsLine (advice_line d)
 unfolding advice_line
 advice_is_line d = whole_line (codes "  = " ++ advice_for d) (lacks-append newline (codes "  = ") (advice_for d) refl (advice_for_lacks d))
 
-four_more : (in_color : Bool) (d : DiagnosticValue) (rest : List ℕ) → HasPlace d → length (lines (safe_lines in_color d ++ rest)) ≡ 4 + length (lines rest)
-unfolding safe_lines source_lines
+-- it has its place with a masked path, too
+pub masked_place : (d : DiagnosticValue) → HasPlace d → HasPlace (with_masked_path d)
+masked_place d h = record { begins = h.begins; line = h.line; column = h.column; end = h.end }
+
+four_more : (in_color : Bool) (d : DiagnosticValue) (rest : List ℕ) → HasPlace d → length (lines (human_lines in_color d ++ rest)) ≡ 4 + length (lines rest)
+unfolding human_lines source_lines
 four_more in_color d rest h =
     let paint : Paint = paint_of in_color d.remark in
-    let start : ℕ = window_start d.source d.column in
-    let part : List ℕ = window d.source start in
+    let source : List ℕ = masked d.source in
+    let start : ℕ = window_start source d.column in
+    let part : List ℕ = window source start in
     let line : List ℕ = source_line part in
     let marks : List ℕ = mark_line paint (take (d.column - 1 - start) part) (take (d.end - d.column) (drop (d.column - 1 - start) part)) in
-    let title : List ℕ = title_line paint d in
+    let title : List ℕ = title_line paint (with_masked_path d) in
     let advice : List ℕ = advice_line d in
     let regrouped : ((title ++ (line ++ marks)) ++ advice) ++ rest ≡ title ++ (line ++ (marks ++ (advice ++ rest))) = simp append_assoc in
-    let first = one_more title (line ++ (marks ++ (advice ++ rest))) (title_is_line paint d h) in
+    let first = one_more title (line ++ (marks ++ (advice ++ rest))) (title_is_line paint (with_masked_path d) (masked_place d h)) in
     let second = one_more line (marks ++ (advice ++ rest)) (source_is_line part) in
     let third = one_more marks (advice ++ rest) (mark_is_line paint (take (d.column - 1 - start) part) (take (d.end - d.column) (drop (d.column - 1 - start) part))) in
     let fourth = one_more advice rest (advice_is_line d) in
     ap (λ (t : List ℕ). length (lines t)) regrouped ∙ omega (arith, first, second, third, fourth)
-
--- it has its place where it is shown, too
-pub safe_place : (d : DiagnosticValue) → HasPlace d → HasPlace (safe d)
-safe_place d h = record { begins = h.begins; line = h.line; column = h.column; end = h.end }
 
 counted : (f : DiagnosticValue → List ℕ) (n : ℕ) → ((d : DiagnosticValue) (rest : List ℕ) → HasPlace d → length (lines (f d ++ rest)) ≡ n + length (lines rest))
     → (ds : List DiagnosticValue) → AllByRecursion HasPlace ds → length (lines (flat_map f ds)) ≡ n * length ds
@@ -329,4 +330,4 @@ pub github_counted : (ds : List DiagnosticValue) → AllByRecursion HasPlace ds 
 github_counted ds h = counted github_line 1 (λ d rest k. one_more (github_line d) rest (github_is_line d k)) ds h ∙ omega arith
 
 pub human_counted : (in_color : Bool) (ds : List DiagnosticValue) → AllByRecursion HasPlace ds → length (lines (flat_map (human_lines in_color) ds)) ≡ 4 * length ds
-human_counted in_color ds h = counted (human_lines in_color) 4 (λ d rest k. four_more in_color (safe d) rest (safe_place d k)) ds h
+human_counted in_color ds h = counted (human_lines in_color) 4 (four_more in_color) ds h

@@ -24,7 +24,7 @@ not_colon b text h e =
     cc
 
 -- two texts without a colon, each with a colon after it
-in_two : (a c r s : List ℕ) → Lacks colon a → Lacks colon c → a ++ colon ∷ r ≡ c ++ colon ∷ s → (a ≡ c) × (r ≡ s)
+pub in_two : (a c r s : List ℕ) → Lacks colon a → Lacks colon c → a ++ colon ∷ r ≡ c ++ colon ∷ s → (a ≡ c) × (r ≡ s)
 in_two [] [] r s p q e = (refl, cc)
 in_two [] (b ∷ c) r s p q e = let same : b ≡ colon = cc in absurd (not_colon b c q same)
 in_two (b ∷ a) [] r s p q e = let same : b ≡ colon = cc in absurd (not_colon b a p same)
@@ -34,7 +34,7 @@ in_two (b ∷ a) (x ∷ c) r s p q e =
     let rest = in_two a c r s (or_parts (eqb b colon) (list_any (λ y. eqb y colon) a) p).1 (or_parts (eqb x colon) (list_any (λ y. eqb y colon) c) q).1 others in
     ((λ i. first i ∷ rest.0 i), rest.1)
 
-number_lacks : (n : ℕ) → n < 2 ^ 64 → Lacks colon (decimal n)
+pub number_lacks : (n : ℕ) → n < 2 ^ 64 → Lacks colon (decimal n)
 number_lacks n h = decimal_lacks colon (λ d small. ne_eqb (48 + d) colon (λ e. omega arith)) n (omega arith)
 
 -- the count and the mark of a fingerprint are known from it

@@ -7,11 +7,13 @@ mod Issues
 mod SameLines
 mod Read
 mod Counts
+mod LineParts
 mod Logs
 mod Places
 mod Placement
 mod Counted
 mod Masking
+mod Windows
 mod Carets
 mod NearestNames
 mod MeantNames

@@ -1,5 +1,5 @@
 -- What distinguishes the diagnostics of a report from one another, in each run in the same way.
-use Rattle.std.specs.Prelude.{ℕ, suc, List, [], ◌∷◌, ◌++◌, count_by, decimal, map, string_bytes}
+use Rattle.std.specs.Prelude.{ℕ, suc, ◌-◌, nat_le, if◌then◌else◌, List, [], ◌∷◌, ◌++◌, count_by, decimal, drop, length, map, string_bytes, take}
 use Rattle.std.specs.Str.Lossy.{utf8_lossy}
 use Rattle.text_bytes.specs.Names.{colon}
 use Rattle.text_bytes.specs.Text.{Text}
@@ -8,10 +8,24 @@ use Rattle.engine_formats.specs.Diagnostics.{DiagnosticValue, shown}
 use Rattle.engine_formats.specs.Remarks.{code_of}
 use Rattle.engine_formats.specs.declared.fingerprints.Fingerprinted.{Fingerprinted}
 
+-- at most how many bytes a line has that a fingerprint has whole
+abbrev pub most_of_line : ℕ
+most_of_line = 200
+
+-- how many bytes it has of each end of a longer one
+abbrev pub end_of_line : ℕ
+end_of_line = 100
+
+-- the text of a line, or of a longer one its first bytes, its length and its last bytes, `FIRST:LENGTH:LAST`
+abbrev pub line_part : Text → Text
+line_part source =
+    if nat_le (length source) most_of_line then source
+    else take end_of_line source ++ colon ∷ decimal (length source) ++ colon ∷ drop (length source - end_of_line) source
+
 -- what a diagnostic is known by, wherever its line is in the file: `V6:PATH:LINE`, the code, the path and the text of
--- the line; what is not UTF-8 becomes U+FFFD
+-- the line, or of a longer one its ends; what is not UTF-8 becomes U+FFFD
 abbrev pub mark_of : DiagnosticValue → Text
-mark_of d = utf8_lossy (code_of d.remark ++ colon ∷ d.path ++ colon ∷ d.source)
+mark_of d = utf8_lossy (code_of d.remark ++ colon ∷ d.path ++ colon ∷ line_part d.source)
 
 -- a fingerprint, by the marks of the diagnostics before it: `COUNT:MARK`, where the count says which of those with this
 -- mark it is

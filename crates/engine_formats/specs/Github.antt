@@ -1,10 +1,12 @@
 -- Diagnostics as workflow commands of GitHub.
 use Rattle.std.specs.Prelude.{ℕ, ◌==◌, if◌then◌else◌, [], ◌∷◌, ◌++◌, codes, decimal, flat_map}
 use Rattle.text_bytes.specs.Text.{Text}
+use Rattle.text_bytes.specs.Escapes.{is_control}
 use Rattle.text_bytes.specs.Names.{carriage_return, colon, comma, newline, percent}
 use Rattle.engine_ends.specs.Places.{word_part}
 use Rattle.engine_formats.specs.Diagnostics.{DiagnosticValue}
 use Rattle.engine_formats.specs.Remarks.{code_of, severity_of, severity_word, text_of}
+use Rattle.engine_formats.specs.Uris.{percent_byte}
 
 -- a byte of what a command says: `%` and the two ends of a line by `%` and two hexadecimal digits, all others as they are
 abbrev pub github_byte : ℕ → Text
@@ -14,11 +16,12 @@ github_byte b =
     else if b == newline then codes "%0A"
     else b ∷ []
 
--- a byte of a command's property, in which a colon and a comma are also written so
+-- a byte of a command's property, in which a colon, a comma and every control byte are also written so
 abbrev pub property_byte : ℕ → Text
 property_byte b =
     if b == colon then codes "%3A"
     else if b == comma then codes "%2C"
+    else if is_control b then percent_byte b
     else github_byte b
 
 -- what a command says, byte by byte

@@ -7,7 +7,7 @@ use Rattle.text_bytes.specs.Names.{newline, question_mark, space, tab}
 use Rattle.engine_formats.specs.Diagnostics.{DiagnosticValue}
 use Rattle.engine_formats.specs.Hints.{advice_for}
 use Rattle.engine_formats.specs.Lines.{code_part, spot_of}
-use Rattle.engine_formats.specs.Masked.{safe}
+use Rattle.engine_formats.specs.Masked.{masked}
 use Rattle.engine_formats.specs.Paints.{paint_of, paint_start, paint_stop}
 use Rattle.engine_formats.specs.Remarks.{text_of}
 use Rattle.engine_formats.specs.declared.paint.Paint.{Paint}
@@ -70,12 +70,12 @@ source_lines paint source column end =
 unfoldable pub advice_line : DiagnosticValue → Text
 advice_line d = codes "  = " ++ advice_for d ++ newline ∷ []
 
--- the four lines of a diagnostic whose path and whose line are safe on a terminal, in colors or without
-unfoldable pub safe_lines : Bool → DiagnosticValue → Text
-safe_lines in_color d =
-    let paint = paint_of in_color d.remark in
-    title_line paint d ++ source_lines paint d.source d.column d.end ++ advice_line d
+-- a diagnostic whose path is masked
+abbrev pub with_masked_path : DiagnosticValue → DiagnosticValue
+with_masked_path d = record d { path = masked d.path }
 
--- the four lines of a diagnostic
-abbrev pub human_lines : Bool → DiagnosticValue → Text
-human_lines in_color d = safe_lines in_color (safe d)
+-- the four lines of a diagnostic, in colors or without, whose path and whose line are masked
+unfoldable pub human_lines : Bool → DiagnosticValue → Text
+human_lines in_color d =
+    let paint = paint_of in_color d.remark in
+    title_line paint (with_masked_path d) ++ source_lines paint (masked d.source) d.column d.end ++ advice_line d

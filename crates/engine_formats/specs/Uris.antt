@@ -15,9 +15,13 @@ is_letter b = (nat_le 65 b && nat_le b 90) || (nat_le 97 b && nat_le b 122)
 abbrev pub is_kept : ℕ → Bool
 is_kept b = is_letter b || is_digit b || b == minus || b == dot || b == underscore || b == tilde || b == slash
 
--- a byte of a path, by `%` and two hexadecimal digits if it does not stand for itself
+-- a byte by `%` and two hexadecimal digits
+abbrev pub percent_byte : ℕ → Text
+percent_byte b = percent ∷ hex_digit (b / 16) ∷ hex_digit (b % 16) ∷ []
+
+-- a byte of a path, by `%` and two digits if it does not stand for itself
 abbrev pub uri_byte : ℕ → Text
-uri_byte b = if is_kept b then b ∷ [] else percent ∷ hex_digit (b / 16) ∷ hex_digit (b % 16) ∷ []
+uri_byte b = if is_kept b then b ∷ [] else percent_byte b
 
 -- a path, byte by byte
 abbrev pub uri_path : Text → Text

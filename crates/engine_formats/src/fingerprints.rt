@@ -1,19 +1,28 @@
 //! What distinguishes the diagnostics of a report from one another.
 //!
 //! Who reads a report compares it with that of an earlier run. Lines that were added above must not make a message a new
-//! one, so a fingerprint has the text of its line and not its number. Messages with the same text are counted.
+//! one, so a fingerprint has the text of its line and not its number. Messages with the same text are counted. A long line may
+//! have many messages, and a fingerprint has only its ends and its length, so that a report does not grow by the square of it.
 ghost use Rattle.std.specs.Prelude.{◌≡◌, ◌+◌, ◌^◌, ◌<◌, ◌∷◌, ◌++◌, [], decimal, map, string_bytes, IfOk, OnOk};
 ghost use Rattle.text_bytes.specs.Names.{colon};
 ghost use Rattle.engine_formats.specs.Diagnostics.{shown};
 ghost use Rattle.text_tables.specs.Pairs.{with_value};
 ghost use Rattle.text_tallies.specs.Tallies.{left_of};
-ghost use Rattle.engine_formats.specs.Fingerprints.{fingerprinted, mark_of, shown_given};
+ghost use Rattle.engine_formats.specs.Fingerprints.{fingerprinted, line_part, mark_of, shown_given};
 
 use crate::diagnostic::Diagnostic;
+use crate::marks::{following, prefix};
 use crate::parts::push_part;
+use itoa::Buffer;
 use std::alloc::{AllocError, Global};
 use text_tables::Table;
 use text_tallies::count_one;
+
+/// At most how many bytes a line has that a fingerprint has whole.
+const MOST_OF_LINE: usize = 200;
+
+/// How many bytes it has of each end of a longer one.
+const END_OF_LINE: usize = 100;
 
 /// A diagnostic, and what distinguishes it from the others of its report.
 #[derive(Drop)]
@@ -99,6 +108,20 @@ fn mark_of(alloc: Global, diagnostic: &Diagnostic<'_>) -> Result<String, AllocEr
 {
     let mut text = Vec::from_slice(alloc, diagnostic.remark.code())?;
     push_part(&mut text, diagnostic.path)?;
-    push_part(&mut text, diagnostic.source)?;
+    text.push(b':')?;
+    push_line(&mut text, diagnostic.source)?;
     String::from_utf8_lossy(alloc, &text)
+}
+
+/// Appends the text of a line, or of a longer one its first bytes, its length and its last bytes: `FIRST:LENGTH:LAST`.
+fn push_line(text: &mut Vec<u8>, source: &[u8]) -> Result<(), AllocError>
+    ensures { OnOk result (text.new.items ≡ text.old.items ++ line_part source.now) }
+{
+    let len = source.len();
+    if len <= MOST_OF_LINE {
+        return text.extend_from_slice(source);
+    }
+    text.extend_from_slice(prefix(source, END_OF_LINE))?;
+    push_part(text, Buffer::new().format(len).as_bytes())?;
+    push_part(text, following(source, len - END_OF_LINE))
 }

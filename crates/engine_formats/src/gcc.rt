@@ -33,22 +33,23 @@ fn push_gcc_line(
 ) -> Result<(), AllocError>
     ensures { OnOk result (text.new.items ≡ text.old.items ++ gcc_line (shown diagnostic.now)) }
 {
-    push_spot(alloc, text, diagnostic)?;
+    push_spot(alloc, text, diagnostic.path, diagnostic)?;
     text.extend_from_slice(diagnostic.remark.text())?;
     push_word(alloc, text, diagnostic.word.as_slice())?;
     push_code(text, diagnostic.remark)
 }
 
-/// Appends `PATH:LINE:COLUMN: error: `, with the path escaped.
+/// Appends `PATH:LINE:COLUMN: error: `, with this path, escaped.
 #[tactic(auto, unfolding(crate::specs::Lines::spot_of))]
 pub(crate) fn push_spot(
     alloc: Global,
     text: &mut Vec<u8>,
+    path: &[u8],
     diagnostic: &Diagnostic<'_>,
 ) -> Result<(), AllocError>
-    ensures { OnOk result (text.new.items ≡ text.old.items ++ spot_of (shown diagnostic.now)) }
+    ensures { OnOk result (text.new.items ≡ text.old.items ++ spot_of (record (shown diagnostic.now) { path = path.now })) }
 {
-    text.extend_from_slice(&escape(alloc, diagnostic.path)?)?;
+    text.extend_from_slice(&escape(alloc, path)?)?;
     push_number(text, diagnostic.line)?;
     push_number(text, diagnostic.column)?;
     text.extend_from_slice(b": ")?;

@@ -1,16 +1,15 @@
 //! Diagnostics for people: each with its line, a mark below the place, and how to fix it.
 ghost use Rattle.std.specs.Prelude.{◌≡◌, ◌++◌, map, flat_map, IfOk, OnOk};
 ghost use Rattle.engine_formats.specs.Diagnostics.{shown};
-ghost use Rattle.engine_formats.specs.Human.{advice_line, human_lines, safe_lines, title_line};
+ghost use Rattle.engine_formats.specs.Human.{advice_line, human_lines, title_line, with_masked_path};
 
 use crate::diagnostic::Diagnostic;
 use crate::gcc::{push_code, push_spot};
 use crate::hints::push_advice_for;
 use crate::marks::push_source;
-use crate::masked::masked;
 use crate::paint::Paint;
+use crate::signs::masked;
 use std::alloc::{AllocError, Global};
-use text_bytes::Bytes;
 
 /// The lines of diagnostics, four for each, in colors or without, in the order given.
 pub(crate) fn human_lines(
@@ -28,6 +27,7 @@ pub(crate) fn human_lines(
 }
 
 /// Appends the four lines of a diagnostic, in colors or without.
+#[tactic(auto, unfolding(crate::specs::Human::human_lines))]
 fn push_human_lines(
     alloc: Global,
     text: &mut Vec<u8>,
@@ -36,35 +36,10 @@ fn push_human_lines(
 ) -> Result<(), AllocError>
     ensures { OnOk result (text.new.items ≡ text.old.items ++ human_lines in_color (shown diagnostic.now)) }
 {
-    let path = masked(alloc, diagnostic.path)?;
-    let source = masked(alloc, diagnostic.source)?;
-    let safe = Diagnostic {
-        name: diagnostic.name,
-        path: &path,
-        source: &source,
-        begins: diagnostic.begins,
-        line: diagnostic.line,
-        column: diagnostic.column,
-        end: diagnostic.end,
-        remark: diagnostic.remark,
-        word: Bytes::new(Vec::from_slice(alloc, diagnostic.word.as_slice())?),
-    };
-    push_safe_lines(alloc, text, in_color, &safe)
-}
-
-/// Appends the four lines of a diagnostic whose path and whose line are safe on a terminal.
-#[tactic(auto, unfolding(crate::specs::Human::safe_lines))]
-fn push_safe_lines(
-    alloc: Global,
-    text: &mut Vec<u8>,
-    in_color: bool,
-    diagnostic: &Diagnostic<'_>,
-) -> Result<(), AllocError>
-    ensures { OnOk result (text.new.items ≡ text.old.items ++ safe_lines in_color (shown diagnostic.now)) }
-{
     let paint = Paint::of(in_color, diagnostic.remark);
     push_title(alloc, text, paint, diagnostic)?;
     push_source(
+        alloc,
         text,
         paint,
         diagnostic.source,
@@ -82,10 +57,11 @@ fn push_title(
     paint: Paint,
     diagnostic: &Diagnostic<'_>,
 ) -> Result<(), AllocError>
-    ensures { OnOk result (text.new.items ≡ text.old.items ++ title_line paint (shown diagnostic.now)) }
+    ensures { OnOk result (text.new.items ≡ text.old.items ++ title_line paint (with_masked_path (shown diagnostic.now))) }
 {
+    let path = masked(Vec::from_slice(alloc, diagnostic.path)?);
     text.extend_from_slice(paint.start())?;
-    push_spot(alloc, text, diagnostic)?;
+    push_spot(alloc, text, &path, diagnostic)?;
     text.extend_from_slice(paint.stop())?;
     text.extend_from_slice(diagnostic.remark.text())?;
     push_code(text, diagnostic.remark)

@@ -1,8 +1,9 @@
 //! Laws that show the definitions cited by the other contracts to be right.
 //!
 //! Each function has an empty body, and its contract is a law of the definitions.
-ghost use Rattle.std.specs.Prelude.{◌≡◌, ◌+◌, ◌-◌, ◌*◌, ◌^◌, ◌<◌, ◌≤◌, Bool, ◌==◌, false, if◌then◌else◌, List, [], ◌∷◌, ◌++◌, All, codes, length, map};
-ghost use Rattle.std.specs.List.{list_any};
+ghost use Rattle.std.specs.Prelude.{◌≡◌, ◌+◌, ◌-◌, ◌*◌, ◌^◌, ◌<◌, ◌≤◌, Bool, ◌==◌, not, false, if◌then◌else◌, List, [], ◌∷◌, ◌++◌};
+ghost use Rattle.std.specs.Prelude.{All, bytes_eq, codes, encode_utf8, flat_map, length, map};
+ghost use Rattle.std.specs.List.{filter, list_any, range_with_len};
 ghost use Rattle.text_bytes.specs.Text.{Text};
 ghost use Rattle.text_bytes.specs.Lines.{lines, numbered_lines};
 ghost use Rattle.text_bytes.specs.Texts.{word_of};
@@ -87,14 +88,17 @@ pub fn marks_are_below_their_places()
         → line_after 1 (human_lines in_color d) ≡ codes "  " ++ map shown_byte (masked d.source) }
 {}
 
-/// What a terminal would obey becomes a sign that it shows: here a control character of two bytes, a mark that reverses what
-/// follows, and one that isolates it. Other characters stay.
+/// What a terminal would obey, what changes the order of a line, and what ends one elsewhere becomes a sign that a terminal
+/// shows: of the first 8,448 characters of Unicode just the control characters U+0080 to U+009F, the marks of direction, U+2028
+/// and U+2029. A text is as long as it was, and has nothing left to mask. Bytes that are no characters stay.
 pub fn terminals_are_not_obeyed()
-    ensures control { masked (194 ∷ 128 ∷ 194 ∷ 155 ∷ 194 ∷ 159 ∷ []) ≡ 194 ∷ 191 ∷ 194 ∷ 191 ∷ 194 ∷ 191 ∷ [] }
-    ensures direction { masked (226 ∷ 128 ∷ 170 ∷ 226 ∷ 128 ∷ 174 ∷ []) ≡ 226 ∷ 128 ∷ 189 ∷ 226 ∷ 128 ∷ 189 ∷ [] }
-    ensures isolation { masked (226 ∷ 129 ∷ 166 ∷ 226 ∷ 129 ∷ 169 ∷ []) ≡ 226 ∷ 129 ∷ 135 ∷ 226 ∷ 129 ∷ 135 ∷ [] }
-    ensures others { masked (155 ∷ 194 ∷ 160 ∷ 226 ∷ 128 ∷ 169 ∷ 226 ∷ 128 ∷ 175 ∷ 226 ∷ 129 ∷ 165 ∷ 226 ∷ 129 ∷ 170 ∷ [])
-        ≡ 155 ∷ 194 ∷ 160 ∷ 226 ∷ 128 ∷ 169 ∷ 226 ∷ 128 ∷ 175 ∷ 226 ∷ 129 ∷ 165 ∷ 226 ∷ 129 ∷ 170 ∷ [] }
+    ensures characters { filter (λ c. not (bytes_eq (masked (encode_utf8 c)) (encode_utf8 c))) (range_with_len 0 8448)
+        ≡ range_with_len 128 32 ++ 1564 ∷ range_with_len 8206 2 ++ range_with_len 8232 7 ++ range_with_len 8294 4 }
+    ensures signs { masked (flat_map encode_utf8 (128 ∷ 159 ∷ 1564 ∷ 8206 ∷ 8207 ∷ 8232 ∷ 8238 ∷ 8294 ∷ 8297 ∷ []))
+        ≡ flat_map encode_utf8 (191 ∷ 191 ∷ 1542 ∷ 8253 ∷ 8253 ∷ 8253 ∷ 8253 ∷ 8263 ∷ 8263 ∷ []) }
+    ensures nothing_left { (text : Text) → masked (masked text) ≡ masked text }
+    ensures as_long { (text : Text) → length (masked text) ≡ length text }
+    ensures others { masked (155 ∷ 156 ∷ 128 ∷ 174 ∷ 225 ∷ 128 ∷ 174 ∷ 226 ∷ 130 ∷ 174 ∷ []) ≡ 155 ∷ 156 ∷ 128 ∷ 174 ∷ 225 ∷ 128 ∷ 174 ∷ 226 ∷ 130 ∷ 174 ∷ [] }
 {}
 
 /// The formats for people and for GitHub have a line for each diagnostic, or four if its line is shown, whatever

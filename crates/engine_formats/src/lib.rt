@@ -21,7 +21,6 @@ mod json_members;
 mod laws;
 mod link_faults;
 mod marks;
-mod masked;
 mod meant;
 mod near;
 mod near_laws;
@@ -34,6 +33,7 @@ mod plain;
 mod reader_laws;
 mod remark;
 mod sarif;
+mod signs;
 mod uris;
 
 pub use codes::{each_remark_is_found, remark_of, remarks};
@@ -46,6 +46,7 @@ pub use laws::{
     diagnostics_have_their_lines, marks_are_below_their_places, messages_are_at_their_words,
     messages_are_plain_diagnostics, style_is_a_warning, terminals_are_not_obeyed,
 };
+pub use marks::shown_byte;
 pub use meant::meant_as;
 pub use near::nearest;
 pub use near_laws::{
@@ -55,6 +56,7 @@ pub use paths::path_of;
 pub use placing::{TextPlace, file_lines, line_numbered, placed_message};
 pub use reader_laws::{
     a_gitlab_report_is_an_array, a_sarif_log_is_an_object, each_json_line_is_an_object,
-    fingerprints_differ, fingerprints_stay, logs_are_read_back,
+    fingerprints_differ, fingerprints_stay, fingerprints_tell_lines_apart, logs_are_read_back,
 };
 pub use remark::{Remark, Severity};
+pub use signs::{masked, shown_in};

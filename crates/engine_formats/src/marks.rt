@@ -1,10 +1,12 @@
 //! A line of a file as it is shown, and the marks below a place in it.
-ghost use Rattle.std.specs.Prelude.{◌≡◌, ◌≤◌, ◌++◌, take, drop, flat_map, length, map, OnOk};
+ghost use Rattle.std.specs.Prelude.{◌≡◌, ◌≤◌, ◌++◌, take, drop, flat_map, length, map, IfOk, OnOk};
 ghost use Rattle.std.specs.List.{prefix_len};
 ghost use Rattle.engine_formats.specs.Human.{continues, first_start, mark_line, shown_byte, source_line, source_lines, under, window, window_start};
+ghost use Rattle.engine_formats.specs.Masked.{masked};
 
 use crate::paint::Paint;
-use std::alloc::AllocError;
+use crate::signs::masked;
+use std::alloc::{AllocError, Global};
 
 /// At most how many bytes of a line are shown.
 const WIDTH: usize = 160;
@@ -12,31 +14,57 @@ const WIDTH: usize = 160;
 /// How many bytes of a longer line are shown before the place.
 const MARGIN: usize = 40;
 
+/// How many bytes before a byte say what becomes of it where it is masked.
+const REACH: usize = 2;
+
 /// The most bytes of a UTF-8 character after its first one.
 const LONGEST_REST: usize = 3;
 
-/// Appends the line that a place is in, and a line that marks the place in a color: `^` below its first byte and
+/// Appends the line that a place is in, masked, and a line that marks the place in a color: `^` below its first byte and
 /// `~` below the others. Of a line of more than 160 bytes, 160 around the place are shown.
+///
+/// Only what is shown is masked, so that a line with many places is not read whole for each of them.
 #[tactic(auto, unfolding(crate::specs::Human::source_lines))]
 pub(crate) fn push_source(
+    alloc: Global,
     text: &mut Vec<u8>,
     paint: Paint,
     source: &[u8],
     column: usize,
     end: usize,
 ) -> Result<(), AllocError>
-    ensures { OnOk result (text.new.items ≡ text.old.items ++ source_lines paint source.now column end) }
+    ensures { OnOk result (text.new.items ≡ text.old.items ++ source_lines paint (masked source.now) column end) }
 {
-    let start = window_start(source, column);
-    let shown = window(source, start);
+    let start = masked_start(source, column);
+    let shown = masked_window(alloc, source, start)?;
     let before = column.saturating_sub(1).saturating_sub(start);
-    push_line(text, shown)?;
+    push_line(text, &shown)?;
     push_marks(
         text,
         paint,
-        prefix(shown, before),
-        prefix(following(shown, before), end.saturating_sub(column)),
+        prefix(&shown, before),
+        prefix(following(&shown, before), end.saturating_sub(column)),
     )
+}
+
+/// The start of the part of a masked line that is shown: that of the line as it is, since masked bytes continue a character as
+/// they did.
+#[tactic(auto, using(crate::proofs::Windows::same_start))]
+fn masked_start(source: &[u8], column: usize) -> usize
+    ensures { result ≡ window_start (masked source.now) column }
+{
+    window_start(source, column)
+}
+
+/// The part of a masked line that is shown. What is masked goes by the two bytes before it.
+#[tactic(auto, using(crate::proofs::Windows::masked_part))]
+fn masked_window(alloc: Global, source: &[u8], start: usize) -> Result<Vec<u8>, AllocError>
+    ensures { IfOk result (λ part. part.items ≡ window (masked source.now) start) }
+{
+    let reach = start.min(REACH);
+    let part = prefix(following(source, start - reach), reach + WIDTH);
+    let part = masked(Vec::from_slice(alloc, part)?);
+    Vec::from_slice(alloc, following(&part, reach))
 }
 
 /// The start of the part of a line that is shown. If that would be inside a UTF-8 character, the part begins after
@@ -72,13 +100,6 @@ fn continuing(bytes: &[u8]) -> usize
     bytes.iter().take_while(|byte| continues(**byte)).count()
 }
 
-/// The part of a line that is shown.
-fn window(source: &[u8], start: usize) -> &[u8]
-    ensures { result.now ≡ window source.now start }
-{
-    prefix(following(source, start), WIDTH)
-}
-
 /// The first bytes of a text, all of them if there are fewer.
 #[tactic(auto, using(std::proofs::lemmas::List::take_min))]
 pub(crate) fn prefix(text: &[u8], len: usize) -> &[u8]
@@ -88,7 +109,7 @@ pub(crate) fn prefix(text: &[u8], len: usize) -> &[u8]
 }
 
 /// What follows the first bytes of a text, nothing if there are fewer.
-fn following(text: &[u8], len: usize) -> &[u8]
+pub(crate) fn following(text: &[u8], len: usize) -> &[u8]
     ensures { result.now ≡ drop len text.now }
 {
     if len < text.len() { &text[len..] } else { &[] }
@@ -117,7 +138,7 @@ fn push_shown(text: &mut Vec<u8>, bytes: &[u8]) -> Result<(), AllocError>
 
 /// A byte of a line as it is shown: a tab as a space, and every other control byte as `?`, so that
 /// each takes one column.
-fn shown_byte(byte: u8) -> u8
+pub fn shown_byte(byte: u8) -> u8
     ensures { result ≡ shown_byte byte }
 {
     match byte {

@@ -1,7 +1,7 @@
 //! Laws of the formats for programs: they are read as they are meant.
 //!
 //! Each function has an empty body, and its contract is a law of the definitions.
-ghost use Rattle.std.specs.Prelude.{◌≡◌, ◌^◌, ◌<◌, ◌==◌, false, List, [], ◌∷◌, ◌++◌, All, Some, codes, length, map};
+ghost use Rattle.std.specs.Prelude.{◌≡◌, ◌-◌, ◌^◌, ◌<◌, ◌≤◌, ◌==◌, false, List, [], ◌∷◌, ◌++◌, All, Some, codes, drop, length, map, take};
 ghost use Rattle.std.specs.List.{list_any};
 ghost use Rattle.text_bytes.specs.Text.{Text};
 ghost use Rattle.text_bytes.specs.Lines.{lines};
@@ -13,7 +13,7 @@ ghost use Rattle.engine_ends.specs.declared.line.Format.{Format};
 ghost use Rattle.engine_formats.specs.Codes.{remarks};
 ghost use Rattle.engine_formats.specs.Diagnostics.{DiagnosticValue};
 ghost use Rattle.engine_formats.specs.Formats.{formatted};
-ghost use Rattle.engine_formats.specs.Fingerprints.{fingerprinted, fingerprints, mark_of};
+ghost use Rattle.engine_formats.specs.Fingerprints.{fingerprinted, fingerprints, line_part, mark_of};
 ghost use Rattle.text_json.specs.Values.{array_of};
 ghost use Rattle.engine_formats.specs.Json.{gitlab_issue, json_object};
 ghost use Rattle.engine_formats.specs.Readers.{HasPlace, github_read, message_read};
@@ -61,4 +61,14 @@ pub fn fingerprints_stay()
     ensures marks { (old new : List DiagnosticValue) → map mark_of old ≡ map mark_of new → fingerprints old ≡ fingerprints new }
     ensures others { (before diagnostics : List DiagnosticValue) → All (λ d. is_among (map mark_of before) (mark_of d) ≡ false) diagnostics
         → fingerprints (before ++ diagnostics) ≡ fingerprints before ++ fingerprints diagnostics }
+{}
+
+/// What a fingerprint has of a line tells a line of at most 200 bytes from every other. Longer lines that it has alike begin and
+/// end alike and are as long. It has at most 222 bytes of a line, however long that is.
+pub fn fingerprints_tell_lines_apart()
+    ensures short { (one other : Text) → length one ≤ 200 → line_part one ≡ line_part other → one ≡ other }
+    ensures long { (one other : Text) → 200 < length one → 200 < length other → length one < 2 ^ 64 → length other < 2 ^ 64
+        → line_part one ≡ line_part other
+        → (take 100 one ≡ take 100 other) × (length one ≡ length other) × (drop (length one - 100) one ≡ drop (length other - 100) other) }
+    ensures bounded { (source : Text) → length source < 2 ^ 64 → length (line_part source) ≤ 222 }
 {}

@@ -1,6 +1,6 @@
 //! Paths of files as references of RFC 3986.
 ghost use Rattle.std.specs.Prelude.{◌≡◌, ◌++◌, IfOk, OnOk};
-ghost use Rattle.engine_formats.specs.Uris.{is_kept, uri_byte, uri_of, uri_path};
+ghost use Rattle.engine_formats.specs.Uris.{is_kept, percent_byte, uri_byte, uri_of, uri_path};
 
 use std::alloc::{AllocError, Global};
 use text_bytes::begins_with;
@@ -36,9 +36,17 @@ fn push_uri_byte(uri: &mut Vec<u8>, byte: u8) -> Result<(), AllocError>
     ensures { OnOk result (uri.new.items ≡ uri.old.items ++ uri_byte byte) }
 {
     if is_kept(byte) {
-        return Ok(uri.push(byte)?);
+        Ok(uri.push(byte)?)
+    } else {
+        push_percent(uri, byte)
     }
-    uri.extend_from_slice(&[
+}
+
+/// Appends a byte by `%` and two hexadecimal digits.
+pub(crate) fn push_percent(text: &mut Vec<u8>, byte: u8) -> Result<(), AllocError>
+    ensures { OnOk result (text.new.items ≡ text.old.items ++ percent_byte byte) }
+{
+    text.extend_from_slice(&[
         b'%',
         DIGITS[usize::from(byte / 16)],
         DIGITS[usize::from(byte % 16)],

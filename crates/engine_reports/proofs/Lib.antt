@@ -1,3 +1,4 @@
 pub mod Bounding
 pub mod Bounds
 pub mod Fitting
+pub mod Telling

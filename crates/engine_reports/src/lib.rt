@@ -18,6 +18,7 @@ mod messages;
 mod opening;
 mod refusal;
 mod report;
+mod told;
 
 pub use answers::answer_lines;
 pub use checks::report_on_rules;

@@ -38,13 +38,36 @@ pub(crate) fn plain_message_lines(
 }
 
 /// Appends a message's line.
-#[tactic(auto, unfolding(crate::specs::Messages::message_line))]
 fn push_message(alloc: Global, text: &mut Vec<u8>, message: &Message) -> Result<(), AllocError>
     ensures { OnOk result (text.new.items ≡ text.old.items ++ message_line message.now) }
 {
-    push_place(alloc, text, message.file.as_slice(), message.line)?;
-    text.extend_from_slice(heading(message.kind))?;
-    push_word(alloc, text, message.word.as_slice())?;
+    let file = message.file.as_slice();
+    push_line(
+        alloc,
+        text,
+        file,
+        message.line,
+        message.kind,
+        message.word.as_slice(),
+    )
+}
+
+/// Appends the line of a message about a line of a file.
+#[tactic(auto, unfolding(crate::specs::Messages::message_line))]
+pub(crate) fn push_line(
+    alloc: Global,
+    text: &mut Vec<u8>,
+    file: &[u8],
+    line: u32,
+    kind: MessageKind,
+    word: &[u8],
+) -> Result<(), AllocError>
+    ensures { OnOk result (text.new.items ≡ text.old.items
+        ++ message_line (record { file = file.now; line = line; kind = kind; word = word.now })) }
+{
+    push_place(alloc, text, file, line)?;
+    text.extend_from_slice(heading(kind))?;
+    push_word(alloc, text, word)?;
     text.push(b'\n')?;
     Ok(())
 }

@@ -1,1 +1,2 @@
 pub mod FormLaw
+pub mod Earlier

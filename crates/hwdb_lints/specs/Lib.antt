@@ -4,3 +4,4 @@ pub mod Names
 pub mod Placed
 pub mod Values
 pub mod Written
+pub mod Earlier

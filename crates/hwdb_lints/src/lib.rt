@@ -6,6 +6,7 @@
 #![tactic(auto)]
 
 mod before;
+mod earlier_laws;
 mod file_lints;
 mod forms;
 mod laws;
@@ -19,6 +20,10 @@ mod properties;
 mod record_keys;
 mod values;
 
+pub use earlier_laws::{
+    all_earlier_matches_count, earlier_keys_of_the_record_count,
+    lines_are_looked_at_by_those_before_them,
+};
 pub use file_lints::database_lints;
 pub use laws::{
     a_match_is_given_twice_in_its_file, blanks_belong_to_nothing,

@@ -2,7 +2,8 @@
 //!
 //! Taken on 28 November 2026 from the comments in the files of hwdb.d of systemd 252, from the rules of systemd 257
 //! that look devices up, and from the aliases of devices in Linux 6.1 (`scripts/mod/file2alias.c`); and on 29 November
-//! 2026 from the files of hwdb.d of Debian trixie, among them those of upower and gmobile. Each table is data that
+//! 2026 from the files of hwdb.d of Debian trixie, among them those of upower and gmobile; on 30 November 2026 further buses
+//! of Linux 6.1 and 6.12, and `block`, which a rule of systemd 257 looks up. Each table is data that
 //! contracts cite as it stands.
 
 /// How the modaliases of a prefix are written: the prefix; what follows it, in which `X` is a hexadecimal digit in
@@ -48,7 +49,7 @@ pub(crate) const MODALIASES: [Modalias; 24] = [
 
 /// What comes before the first `:` of the matches that something looks up: the prefixes of hwdb.d, then the buses
 /// whose devices have a modalias.
-pub(crate) const FIRST_WORDS: [&[u8]; 94] = [
+pub(crate) const FIRST_WORDS: [&[u8]; 108] = [
     b"usb",
     b"pci",
     b"OUI",
@@ -143,4 +144,18 @@ pub(crate) const FIRST_WORDS: [&[u8]; 94] = [
     b"virtio",
     b"wmi",
     b"xen",
+    b"apr",
+    b"arm_ffa",
+    b"block",
+    b"cxl",
+    b"dax",
+    b"gio",
+    b"mipi-dsi",
+    b"mipscdmm",
+    b"parisc",
+    b"ps3",
+    b"scm",
+    b"vchiq",
+    b"xen-backend",
+    b"zorro",
 ];

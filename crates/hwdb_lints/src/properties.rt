@@ -4,7 +4,7 @@
 //! 257 makes of its own files (`hwdb.d/parse_hwdb.py`). A property that is in none of these tables takes any value.
 
 /// Properties that are `1` or `0`.
-pub(crate) const FLAGS: [&[u8]; 25] = [
+pub(crate) const FLAGS: [&[u8]; 28] = [
     b"ID_AUTOSUSPEND",
     b"ID_AV_LIGHTS",
     b"ID_AV_PRODUCTION_CONTROLLER",
@@ -30,10 +30,13 @@ pub(crate) const FLAGS: [&[u8]; 25] = [
     b"IEEE1394_UNIT_FUNCTION_MIDI",
     b"IEEE1394_UNIT_FUNCTION_VIDEO",
     b"KEYBOARD_LED_CAPSLOCK",
+    b"KEYBOARD_LED_NUMLOCK",
+    b"ID_NET_AUTO_LINK_LOCAL_ONLY",
+    b"TPM2_BROKEN_NVPCR",
 ];
 
 /// Properties that are `1` or `0`, or empty, which takes away what `input_id` found.
-pub(crate) const INPUT_FLAGS: [&[u8]; 14] = [
+pub(crate) const INPUT_FLAGS: [&[u8]; 13] = [
     b"ID_INPUT",
     b"ID_INPUT_ACCELEROMETER",
     b"ID_INPUT_JOYSTICK",
@@ -47,7 +50,6 @@ pub(crate) const INPUT_FLAGS: [&[u8]; 14] = [
     b"ID_INPUT_TOUCHPAD",
     b"ID_INPUT_TOUCHSCREEN",
     b"ID_INPUT_TRACKBALL",
-    b"KEYBOARD_LED_NUMLOCK",
 ];
 
 /// Properties that are a whole number.
@@ -86,7 +88,9 @@ pub(crate) const CHOICES: [Choice; 6] = [
     (b"ID_INTEGRATION", &[b"external", b"internal"]),
     (
         b"SOUND_FORM_FACTOR",
+        // (`controller` is of systemd 262)
         &[
+            b"controller",
             b"handset",
             b"headphone",
             b"headset",

@@ -1,6 +1,6 @@
 //! The disk of a runtime whose files give little, are interrupted, and fail at their end or not.
 
-use devdry_files::{Disk, DiskFault, RealDisk};
+use devdry_files::{Disk, DiskFault, RealDisk, RealSystem};
 use std::alloc::Allocator;
 use std::fs::{Files, Metadata, OpenFile, OpenOptions};
 use std::io::{self, Empty, Read, Seek, SeekFrom, Write};
@@ -57,7 +57,7 @@ impl Seek for SlowFile {
 
 impl OpenFile for SlowFile {
     fn metadata(&self) -> io::Result<Metadata> {
-        unsupported()
+        Ok(Metadata::of_file(100_000))
     }
 
     fn set_len(&self, _size: u64) -> io::Result<()> {
@@ -133,7 +133,7 @@ impl Files for SlowFiles {
 fn reads_to_the_end(rt: HostRuntime) -> Result<(), Fail> {
     for fails in [false, true] {
         let runtime = (SlowFiles { fails }, rt.alloc());
-        match RealDisk::new(&runtime).read(rt.alloc(), "a") {
+        match RealDisk::new(RealSystem::new(&runtime)).read(rt.alloc(), "a") {
             Ok(bytes) => assert!(rt; !fails && bytes.as_slice().len() == 100_000),
             Err(fault) => assert!(rt; fails && fault == DiskFault::Unreadable),
         }

@@ -2,7 +2,6 @@
 //!
 //! Each function here is empty: its contract is the law.
 ghost use Rattle.std.specs.Prelude.{◌≡◌, ◌≤◌, ◌∷◌, List, Some, [], codes, false, length, true};
-ghost use Rattle.std.specs.Str.{is_utf8};
 ghost use Rattle.text_bytes.specs.Text.{Text};
 ghost use Rattle.text_bytes.specs.declared.source_file.FileKind.{FileKind};
 ghost use Rattle.link_files.specs.Examples.{at};
@@ -62,12 +61,11 @@ pub fn files_are_put_together()
     ensures masked { (kind : FileKind) → link_files (at kind 3 (codes "a.link") (codes "#") ∷ at kind 0 (codes "a.link") [] ∷ []) [] ≡ [] }
 {}
 
-/// What a line of UTF-8 adds: blanks around the key and the value are no part of them; a section is between brackets, and
+/// What a line adds: blanks around the key and the value are no part of them; a section is between brackets, and
 /// a line without `=` adds nothing.
 pub fn lines_set_keys()
-    ensures setting { (r : ReadingValue) → is_utf8 (codes "Name = e=f") ≡ true
-        → with_line r (codes " Name = e=f\t") ≡ with_setting r (codes "Name") (codes "e=f") }
-    ensures section { (r : ReadingValue) → is_utf8 (codes "[Link]") ≡ true → with_line r (codes "[Link] ") ≡ with_section r (Some (codes "Link")) }
-    ensures broken { (r : ReadingValue) → is_utf8 (codes "[Link] a") ≡ true → with_line r (codes "[Link] a") ≡ broken r }
-    ensures bare { (r : ReadingValue) → is_utf8 (codes "Name") ≡ true → with_line r (codes "Name") ≡ r }
+    ensures setting { (r : ReadingValue) → with_line r (codes " Name = e=f\t") ≡ with_setting r (codes "Name") (codes "e=f") }
+    ensures section { (r : ReadingValue) → with_line r (codes "[Link] ") ≡ with_section r (Some (codes "Link")) }
+    ensures broken { (r : ReadingValue) → with_line r (codes "[Link] a") ≡ broken r }
+    ensures bare { (r : ReadingValue) → with_line r (codes "Name") ≡ r }
 {}

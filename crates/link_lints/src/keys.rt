@@ -1,6 +1,8 @@
 //! The keys of `.link` files, with the form that the value of each has.
 //!
-//! Taken on 29 November 2026 from systemd.link(5) of systemd 257. Each table is data that contracts cite as it stands.
+//! Taken on 29 November 2026 from systemd.link(5) of systemd 257; and on 30 November 2026 from that of systemd 262 the keys
+//! of `[EnergyEfficientEthernet]` and `PartialGenericSegmentationOffload`, which udev has from 258 on. Each table is data
+//! that contracts cite as it stands.
 
 /// The form of a value.
 #[derive(Clone, Copy, PartialEq, Eq)]
@@ -147,7 +149,7 @@ pub(crate) const ENERGY_KEYS: [Key; 4] = [
     (b"Enable", Form::Boolean),
     (b"TxLowPowerIdle", Form::Boolean),
     (b"TxLowPowerIdleSec", Form::Any),
-    (b"Advertise", Form::Any),
+    (b"LinkMode", Form::Any),
 ];
 
 /// The policies for the name.

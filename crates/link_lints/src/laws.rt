@@ -2,7 +2,6 @@
 //!
 //! Each function here is empty: its contract is the law.
 ghost use Rattle.std.specs.Prelude.{◌≡◌, ◌∷◌, List, [], codes, false, flat_map, true};
-ghost use Rattle.std.specs.Str.{is_utf8};
 ghost use Rattle.text_bytes.specs.declared.source_file.FileKind.{FileKind};
 ghost use Rattle.text_bytes.specs.declared.source_file.SourceFile.{SourceFile};
 ghost use Rattle.link_files.specs.Examples.{at};
@@ -23,18 +22,16 @@ pub fn faultless_files_are_used()
 
 /// What is reported for lines, and where: a section, a key, a value and a line as a whole.
 pub fn faults_have_their_places()
-    ensures section { is_utf8 (codes "[Matsch]") ≡ true
-        → line_faults section.Link (line 3 (codes " [Matsch]")) ≡ of_fault 3 3 9 UnknownSection (codes "Matsch") }
-    ensures extension { is_utf8 (codes "[X-Own]") ≡ true → line_faults section.Link (line 3 (codes "[X-Own]")) ≡ [] }
-    ensures key { is_utf8 (codes "Nmae=a") ≡ true → line_faults section.Link (line 2 (codes "  Nmae=a")) ≡ of_fault 2 3 7 UnknownKey (codes "Nmae") }
-    ensures other { is_utf8 (codes "Name=a") ≡ true → line_faults section.Match (line 2 (codes "Name=a")) ≡ of_fault 2 1 5 UnknownKey (codes "Name") }
-    ensures value { is_utf8 (codes "NTupleFilter = maybe") ≡ true
-        → line_faults section.Link (line 2 (codes "NTupleFilter = maybe ")) ≡ of_fault 2 16 21 BadValue (codes "maybe") }
-    ensures empty { is_utf8 (codes "NTupleFilter=") ≡ true → line_faults section.Link (line 2 (codes "NTupleFilter=")) ≡ [] }
-    ensures bare { is_utf8 (codes "Name") ≡ true → line_faults section.Link (line 4 (codes "Name")) ≡ of_fault 4 1 5 BadLine (codes "Name") }
-    ensures before { is_utf8 (codes "Name=a") ≡ true → line_faults section.Before (line 1 (codes "Name=a")) ≡ of_fault 1 1 7 BadLine (codes "Name=a") }
-    ensures skipped { is_utf8 (codes "Name") ≡ true → line_faults section.Unknown (line 4 (codes "Name")) ≡ [] }
-    ensures unread { is_utf8 (codes "[Link") ≡ true → line_faults section.Link (line 1 (codes "[Link")) ≡ of_fault 1 1 6 BadLine (codes "[Link") }
+    ensures section { line_faults section.Link (line 3 (codes " [Matsch]")) ≡ of_fault 3 3 9 UnknownSection (codes "Matsch") }
+    ensures extension { line_faults section.Link (line 3 (codes "[X-Own]")) ≡ [] }
+    ensures key { line_faults section.Link (line 2 (codes "  Nmae=a")) ≡ of_fault 2 3 7 UnknownKey (codes "Nmae") }
+    ensures other { line_faults section.Match (line 2 (codes "Name=a")) ≡ of_fault 2 1 5 UnknownKey (codes "Name") }
+    ensures value { line_faults section.Link (line 2 (codes "NTupleFilter = maybe ")) ≡ of_fault 2 16 21 BadValue (codes "maybe") }
+    ensures empty { line_faults section.Link (line 2 (codes "NTupleFilter=")) ≡ [] }
+    ensures bare { line_faults section.Link (line 4 (codes "Name")) ≡ of_fault 4 1 5 BadLine (codes "Name") }
+    ensures before { line_faults section.Before (line 1 (codes "Name=a")) ≡ of_fault 1 1 7 BadLine (codes "Name=a") }
+    ensures skipped { line_faults section.Unknown (line 4 (codes "Name")) ≡ [] }
+    ensures unread { line_faults section.Link (line 1 (codes "[Link")) ≡ of_fault 1 1 6 BadLine (codes "[Link") }
 {}
 
 /// Values that keys take, and some that they don't.

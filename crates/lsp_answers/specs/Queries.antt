@@ -8,6 +8,7 @@ use Rattle.lsp_messages.specs.Parameters.{PlacedValue, RangedValue, includes_dec
 use Rattle.lsp_messages.specs.declared.errors.ErrorCode.{ErrorCode}
 use Rattle.lsp_messages.specs.declared.errors.ErrorCode.TheVariants.{InvalidParams, MethodNotFound}
 use Rattle.lsp_texts.specs.declared.documents.Document.{Document}
+use Rattle.lsp_texts.specs.declared.documents.Document.TheVariants.{InStep, OutOfStep}
 use Rattle.lsp_texts.specs.declared.rows.Position.{Position}
 use Rattle.lsp_answers.specs.declared.queries.Method.{Method}
 use Rattle.lsp_answers.specs.declared.queries.Method.TheVariants.{Actions, Completion, Definition, Formatting, Hover, References, Symbols}
@@ -60,13 +61,14 @@ range_asked Symbols params = option_map whole (uri_of params)
 range_asked Formatting params = option_map whole (uri_of params)
 range_asked _ params = option_map point (placed_of params)
 
--- a query about a document that is open, or the error that it is not
+-- a query about a document that is open, or the error that it is not, or that its text is not known
 abbrev pub query_about : Method → Json → RangedValue → Option Document → Result QueryValue ErrorCode
 query_about method params range None = Err InvalidParams
-query_about method params range (Some document) = Ok (record {
+query_about method params range (Some OutOfStep) = Err InvalidParams
+query_about method params range (Some (InStep version text)) = Ok (record {
   method = method;
   uri = range.uri;
-  text = document.text;
+  text = text;
   start = range.start;
   end = range.end;
   declaration = includes_declaration params;

@@ -1,5 +1,5 @@
 //! What is true of answers. Each law is the contract of a function that does nothing.
-ghost use Rattle.std.specs.Prelude.{◌≡◌, ◌≢◌, ◌≤◌, Err, IfOk, IfSome, List, None, Option, Some, [], length, option_map};
+ghost use Rattle.std.specs.Prelude.{◌≡◌, ◌≢◌, ◌≤◌, ℕ, Err, IfOk, IfSome, List, None, Option, Some, [], length};
 ghost use Rattle.std.specs.Str.{IsUtf8};
 ghost use Rattle.text_bytes.specs.declared.source_file.FileKind.TheVariants.{Hwdb};
 ghost use Rattle.text_tables.specs.Pairs.{value_of};
@@ -16,6 +16,7 @@ ghost use Rattle.lsp_texts.specs.Changes.{changed};
 ghost use Rattle.lsp_texts.specs.Rows.{position_of};
 ghost use Rattle.lsp_texts.specs.declared.counting.Encoding.{Encoding};
 ghost use Rattle.lsp_texts.specs.declared.documents.Document.{Document};
+ghost use Rattle.lsp_texts.specs.declared.documents.Document.TheVariants.{InStep};
 
 /// Each method is found by its name.
 pub fn methods_are_found_by_their_names()
@@ -28,11 +29,11 @@ pub fn other_methods_are_not_found()
         → query_of documents method params ≡ Err MethodNotFound }
 {}
 
-/// A query is about a document that is open, and about its text.
+/// A query is about a document that is open and in step, and about its text.
 pub fn queries_are_about_open_documents()
     ensures { (documents : List (Text × Document)) (method : Text) (params : Option Json)
         → IfOk (query_of documents method params)
-        (λ query. option_map (λ document. document.text) (value_of documents query.uri) ≡ Some query.text) }
+        (λ query. (version : Option ℕ) × (value_of documents query.uri ≡ Some (InStep version query.text))) }
 {}
 
 /// Mending gives UTF-8, and never the text that is there already.

@@ -7,7 +7,7 @@ ghost use Rattle.lsp_answers.specs.Given.{GivesQuery};
 
 use json::Value;
 use lsp_messages::{ErrorCode, Ranged, includes_declaration, placed_of, ranged_of, uri_of};
-use lsp_texts::{Documents, Position};
+use lsp_texts::{Document, Documents, Position};
 
 /// A method that is about a document.
 #[derive(Clone, Copy, PartialEq, Eq)]
@@ -39,7 +39,7 @@ const METHODS: [Method; 7] = [
     Method::Formatting,
 ];
 
-/// What a request asks for about a document that is open.
+/// What a request asks for about a document whose text is known.
 #[derive(Drop)]
 pub struct Query<'q> {
     /// The method.
@@ -134,22 +134,22 @@ fn query_with<'q, 'a: 'q>(
         None => return Err(ErrorCode::InvalidParams),
     };
     match documents.get(range.uri.as_bytes()) {
-        Some(document) => Ok(Query {
+        Some(Document::InStep { text, .. }) => Ok(Query {
             method,
             uri: range.uri,
-            text: document.text.as_slice(),
+            text: text.as_slice(),
             start: range.start,
             end: range.end,
             declaration: includes_declaration(params),
         }),
-        None => Err(ErrorCode::InvalidParams),
+        Some(Document::OutOfStep) | None => Err(ErrorCode::InvalidParams),
     }
 }
 
 /// The query that a request is, about one of these documents.
 ///
 /// `MethodNotFound` comes if there is no method of this name; `InvalidParams` without parameters, if they do not say which
-/// document and which place or range of it is meant, or if that document is not open.
+/// document and which place or range of it is meant, or if that document is not open or out of step.
 pub fn query_of<'q, 'a: 'q>(
     documents: &'q Documents,
     method: &str,

@@ -1,11 +1,6 @@
 -- What is written is read back.
-use Rattle.std.proofs.Common.{◌≡◌, ℕ, ◌^◌, ◌<◌, true, List, [], ◌∷◌, length, Some, None, nat_lt, decimal, refl, arith, rules}
-use Rattle.std.specs.List.{list_all}
+use Rattle.std.proofs.Common.{◌≡◌, ℕ, ◌^◌, ◌<◌, true, List, Some, None, refl, arith}
 use Rattle.std.specs.Int.Signed.{mag}
-use Rattle.std.proofs.lemmas.Bool.{lt-ltb}
-use Rattle.std.proofs.lemmas.Fmt.{decimal_nonempty, digits_decimal, digits_value-decimal}
-use Rattle.std.proofs.lemmas.Str.Parse.{IsNumeralModel, numerals_by_fold}
-use Rattle.text_bytes.specs.Numbers.{decimal_after, decimal_below, is_decimal, is_digit}
 use Rattle.json.specs.Json.{Json, array, boolean, document, max_depth, null, number, object, string}
 use Rattle.json.specs.Print.{print}
 use Rattle.json.specs.Tree.{HasNumbers, depth, json_tokens}
@@ -13,33 +8,16 @@ use Rattle.json.proofs.Printed.Decimals.{IsNumber-signed_decimal}
 use Rattle.json.proofs.Printed.Trees.{document-print}
 use Rattle.lsp_messages.specs.Messages.{is_id}
 use Rattle.lsp_messages.specs.Positions.{place, position_of, position_value, range_of, range_value}
+use Rattle.lsp_messages.proofs.NumbersBack.{number_back}
 use Rattle.lsp_messages.specs.Responses.{code_number, error_of, error_value, notification_of, response_of}
 use Rattle.lsp_messages.specs.declared.errors.ErrorCode.{ErrorCode}
 use Rattle.lsp_messages.specs.declared.errors.ErrorCode.TheVariants.{InvalidParams, InvalidRequest, MethodNotFound, ParseError, ServerNotInitialized}
 
--- the digits of a text, and the number that they write
-own : IsNumeralModel (λ ds. list_all is_digit ds ≡ true) (decimal_after 0)
-own = numerals_by_fold _ (search rules) decimal_after (search rules)
-
-below_is : (text : List ℕ) (n bound : ℕ) → is_decimal text ≡ true → decimal_after 0 text ≡ n → nat_lt n bound ≡ true → decimal_below bound text ≡ Some n
-unfolding decimal_below
-below_is text n bound digits is low = rw (digits, is, low) refl
-
-filled : (text : List ℕ) → 0 < length text → list_all is_digit text ≡ true → is_decimal text ≡ true
-filled [] some all = absurd (omega arith)
-filled (b ∷ text) some all = all
-
--- a number that is written in decimal digits is read as it was
-pub number_back : (n : ℕ) → n < 2 ^ 31 → decimal_below (2 ^ 31) (decimal n) ≡ Some n
-number_back n h =
-    let small : n < 2 ^ 64 = omega arith in
-    below_is (decimal n) n (2 ^ 31) (filled (decimal n) (decimal_nonempty n small) (digits_decimal own n small)) (digits_value-decimal own n small) (lt-ltb n (2 ^ 31) h)
-
-pub position_back : (line character : ℕ) → line < 2 ^ 31 → character < 2 ^ 31 → position_of (position_value (place line character)) ≡ Some (place line character)
+pub position_back : (line character : ℕ) → line < 2 ^ 32 → character < 2 ^ 32 → position_of (position_value (place line character)) ≡ Some (place line character)
 unfolding position_of position_value
 position_back line character l h = rw (number_back line l, number_back character h) refl
 
-pub range_back : (line character last end : ℕ) → line < 2 ^ 31 → character < 2 ^ 31 → last < 2 ^ 31 → end < 2 ^ 31
+pub range_back : (line character last end : ℕ) → line < 2 ^ 32 → character < 2 ^ 32 → last < 2 ^ 32 → end < 2 ^ 32
     → range_of (range_value (place line character) (place last end)) ≡ Some (place line character, place last end)
 unfolding range_of range_value position_of position_value
 range_back line character last end a b c d = rw (number_back line a, number_back character b, number_back last c, number_back end d) refl

@@ -1,3 +1,4 @@
+pub mod Numbers
 pub mod Positions
 pub mod Messages
 pub mod Parameters

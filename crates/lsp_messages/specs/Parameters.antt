@@ -1,5 +1,5 @@
 -- The parameters of requests and notifications.
-use Rattle.std.specs.Prelude.{ℕ, Bool, false, Option, codes, option_and_then, option_map, unwrap_or}
+use Rattle.std.specs.Prelude.{ℕ, ◌^◌, Bool, false, Option, Some, None, codes, if◌then◌else◌, nat_lt, option_and_then, option_map, unwrap_or}
 use Rattle.text_bytes.specs.Text.{Text}
 use Rattle.json.specs.Json.{Json}
 use Rattle.json.specs.Find.{as_bool, as_str, get}
@@ -21,9 +21,13 @@ document_of params = get (codes "textDocument") params
 unfoldable pub uri_of : Json → Option Text
 uri_of params = option_and_then (string_at (codes "uri")) (document_of params)
 
+-- the version that a document has: the numbers of the protocol are below 2^31
+abbrev pub version_in : Json → Option ℕ
+version_in document = option_and_then (λ number. if nat_lt number (2 ^ 31) then Some number else None) (number_at (codes "version") document)
+
 -- the version of the document that parameters are about
 unfoldable pub version_of : Json → Option ℕ
-version_of params = option_and_then (number_at (codes "version")) (document_of params)
+version_of params = option_and_then version_in (document_of params)
 
 -- a document that was opened
 pub record OpenedValue : Type 0 where
@@ -42,7 +46,7 @@ opened_in document =
     option_and_then (λ uri. option_map (λ text. record {
       uri = uri;
       language = string_at (codes "languageId") document;
-      version = number_at (codes "version") document;
+      version = version_in document;
       text = text;
     }) (string_at (codes "text") document)) (string_at (codes "uri") document)
 

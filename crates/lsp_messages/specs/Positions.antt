@@ -1,15 +1,16 @@
 -- Positions and ranges as values of JSON.
-use Rattle.std.specs.Prelude.{ℕ, ◌^◌, [], ◌∷◌, Option, codes, option_and_then, option_map}
+use Rattle.std.specs.Prelude.{ℕ, [], ◌∷◌, Option, codes, option_and_then, option_map}
 use Rattle.text_bytes.specs.Text.{Text}
-use Rattle.text_bytes.specs.Numbers.{decimal_below}
+use Rattle.text_bytes.specs.Numbers.{capped}
 use Rattle.json.specs.Json.{Json, string}
 use Rattle.json.specs.Find.{as_number, get}
 use Rattle.text_json.specs.Values.{number_value, object_of}
+use Rattle.lsp_messages.specs.Numbers.{whole_number}
 use Rattle.lsp_texts.specs.declared.rows.Position.{Position}
 
--- the number that a value is, if it is one of decimal digits alone and below 2^31
+-- the whole number that a value is, if it is one: at most 2^32 - 1, which is past the end of each row and of each text
 abbrev pub number_of : Json → Option ℕ
-number_of value = option_and_then (decimal_below (2 ^ 31)) (as_number value)
+number_of value = option_map capped (option_and_then whole_number (as_number value))
 
 -- the number that a member is
 abbrev pub number_at : Text → Json → Option ℕ

@@ -7,7 +7,7 @@ ghost use Rattle.lsp_messages.specs.Changes.{changes_of};
 ghost use Rattle.lsp_messages.specs.Messages.{invalid, notification, request, response};
 ghost use Rattle.lsp_messages.specs.Offers.{offers_utf8};
 ghost use Rattle.lsp_messages.specs.Options.{absent, malformed, options_of, words};
-ghost use Rattle.lsp_messages.specs.Parameters.{opened_of, placed_of, ranged_of, uri_of};
+ghost use Rattle.lsp_messages.specs.Parameters.{opened_of, placed_of, ranged_of, uri_of, version_of};
 ghost use Rattle.lsp_messages.specs.Positions.{place, position_of, range_of};
 ghost use Rattle.lsp_messages.specs.Readings.{message_in, read_in};
 
@@ -32,15 +32,23 @@ pub fn some_that_are_invalid()
     ensures text { message_in (codes "{\"method\":\"m\"") ≡ None }
 {}
 
-/// Positions: numbers from 0 to 2^31 - 1 of digits alone, the line first.
+/// Positions: whole numbers however they are written, the line first; 2^32 - 1 for a greater one. A number below zero or with a
+/// fraction is none.
 pub fn some_positions()
     ensures place { read_in position_of (codes "{\"line\":3,\"character\":20}") ≡ Some (place 3 20) }
     ensures order { read_in position_of (codes "{\"character\":20,\"line\":3}") ≡ Some (place 3 20) }
     ensures most { read_in position_of (codes "{\"line\":2147483647,\"character\":0}") ≡ Some (place 2147483647 0) }
-    ensures great { read_in position_of (codes "{\"line\":2147483648,\"character\":0}") ≡ None }
+    ensures great { read_in position_of (codes "{\"line\":2147483648,\"character\":4294967296}") ≡ Some (place 2147483648 4294967295) }
+    ensures greatest { read_in position_of (codes "{\"line\":99999999999999999999,\"character\":1e30}") ≡ Some (place 4294967295 4294967295) }
+    ensures point { read_in position_of (codes "{\"line\":1.0,\"character\":20.00}") ≡ Some (place 1 20) }
+    ensures exponent { read_in position_of (codes "{\"line\":1e1,\"character\":1E+2}") ≡ Some (place 10 100) }
+    ensures both { read_in position_of (codes "{\"line\":1.25e2,\"character\":0.5e1}") ≡ Some (place 125 5) }
+    ensures down { read_in position_of (codes "{\"line\":10e-1,\"character\":0e-9}") ≡ Some (place 1 0) }
+    ensures zero { read_in position_of (codes "{\"line\":-0,\"character\":-0.0}") ≡ Some (place 0 0) }
     ensures sign { read_in position_of (codes "{\"line\":-1,\"character\":0}") ≡ None }
-    ensures fraction { read_in position_of (codes "{\"line\":1.0,\"character\":0}") ≡ None }
-    ensures exponent { read_in position_of (codes "{\"line\":1e1,\"character\":0}") ≡ None }
+    ensures fraction { read_in position_of (codes "{\"line\":1.5,\"character\":0}") ≡ None }
+    ensures small { read_in position_of (codes "{\"line\":1e-1,\"character\":0}") ≡ None }
+    ensures deep { read_in position_of (codes "{\"line\":99999999999999999999.5,\"character\":0}") ≡ None }
     ensures word { read_in position_of (codes "{\"line\":\"1\",\"character\":0}") ≡ None }
     ensures lacking { read_in position_of (codes "{\"line\":1}") ≡ None }
     ensures range { read_in range_of (codes "{\"start\":{\"line\":1,\"character\":2},\"end\":{\"line\":3,\"character\":4}}") ≡ Some (place 1 2, place 3 4) }
@@ -51,6 +59,8 @@ pub fn some_parameters()
     ensures uri { read_in uri_of (codes "{\"textDocument\":{\"uri\":\"u\"}}") ≡ Some (codes "u") }
     ensures opened { read_in opened_of (codes "{\"textDocument\":{\"uri\":\"u\",\"languageId\":\"l\",\"version\":7,\"text\":\"t\\n\"}}")
         ≡ Some (record { uri = codes "u"; language = Some (codes "l"); version = Some 7; text = codes "t\n" }) }
+    ensures version { read_in version_of (codes "{\"textDocument\":{\"version\":2147483647.0}}") ≡ Some 2147483647 }
+    ensures great { read_in version_of (codes "{\"textDocument\":{\"version\":2147483648}}") ≡ None }
     ensures bare { read_in opened_of (codes "{\"textDocument\":{\"uri\":\"u\",\"text\":\"\"}}")
         ≡ Some (record { uri = codes "u"; language = None; version = None; text = [] }) }
     ensures lacking { read_in opened_of (codes "{\"textDocument\":{\"uri\":\"u\"}}") ≡ None }

@@ -50,11 +50,11 @@ pub fn messages_are_read_back()
         → document (print (json_tokens (notification_of method params))) ≡ Some (notification_of method params) }
 {}
 
-/// A position that is written is read back, and so is a range, if their numbers are below 2^31.
+/// A position that is written is read back, and so is a range.
 pub fn positions_are_read_back()
-    ensures position { (line character : ℕ) → line < 2 ^ 31 → character < 2 ^ 31
+    ensures position { (line character : ℕ) → line < 2 ^ 32 → character < 2 ^ 32
         → position_of (position_value (place line character)) ≡ Some (place line character) }
-    ensures range { (line character last end : ℕ) → line < 2 ^ 31 → character < 2 ^ 31 → last < 2 ^ 31 → end < 2 ^ 31
+    ensures range { (line character last end : ℕ) → line < 2 ^ 32 → character < 2 ^ 32 → last < 2 ^ 32 → end < 2 ^ 32
         → range_of (range_value (place line character) (place last end)) ≡ Some (place line character, place last end) }
 {}
 

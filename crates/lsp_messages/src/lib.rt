@@ -9,6 +9,7 @@ mod errors;
 mod examples;
 mod laws;
 mod message;
+mod numbers;
 mod offers;
 mod options;
 mod parameters;

@@ -2,11 +2,14 @@
 ghost use Rattle.std.specs.Prelude.{◌≡◌, option_map};
 ghost use Rattle.json.specs.Value.{value_view};
 ghost use Rattle.lsp_messages.specs.Parameters.{declaration_asked, includes_declaration, opened_in, opened_of, opened_shown, placed_of, placed_shown};
-ghost use Rattle.lsp_messages.specs.Parameters.{ranged_of, ranged_shown, string_at, uri_of, version_of};
+ghost use Rattle.lsp_messages.specs.Parameters.{ranged_of, ranged_shown, string_at, uri_of, version_in, version_of};
 
 use crate::positions::{number_at, position_at, range_of};
 use json::Value;
 use lsp_texts::Position;
+
+/// The numbers of the protocol are below this, 2^31.
+const NUMBERS: u32 = 0x8000_0000;
 
 /// A document that was opened.
 #[derive(Drop)]
@@ -56,13 +59,20 @@ pub fn uri_of<'a>(params: &Value<'a>) -> Option<&'a str>
     string_at(params.get("textDocument")?, "uri")
 }
 
-/// The version of the document that parameters are about: `textDocument.version`, if that is a number of decimal digits alone
-/// below 2^31.
+/// The version that a document has, if it has one that is a whole number below 2^31.
+fn version_in(document: &Value<'_>) -> Option<u32>
+    ensures { result ≡ version_in (value_view document.now) }
+{
+    let number = number_at(document, "version")?;
+    if number < NUMBERS { Some(number) } else { None }
+}
+
+/// The version of the document that parameters are about: `textDocument.version`, if that is a whole number below 2^31.
 #[tactic(auto, unfolding(crate::specs::Parameters::version_of))]
 pub fn version_of(params: &Value<'_>) -> Option<u32>
     ensures { result ≡ version_of (value_view params.now) }
 {
-    number_at(params.get("textDocument")?, "version")
+    version_in(params.get("textDocument")?)
 }
 
 /// The document that the parameters of `textDocument/didOpen` have: its `textDocument`, which has to have a `uri` and a
@@ -81,7 +91,7 @@ fn opened_in<'a>(document: &Value<'a>) -> Option<Opened<'a>>
     let uri = string_at(document, "uri")?;
     let text = string_at(document, "text")?;
     let language = string_at(document, "languageId");
-    let version = number_at(document, "version");
+    let version = version_in(document);
     Some(Opened {
         uri,
         language,

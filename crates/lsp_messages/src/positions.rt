@@ -5,22 +5,18 @@ ghost use Rattle.json.specs.Value.{value_view};
 ghost use Rattle.lsp_messages.specs.Positions.{edit_value, location_value, number_at, number_of, position_at};
 ghost use Rattle.lsp_messages.specs.Positions.{position_of, position_value, range_of, range_value};
 
+use crate::numbers::whole_number;
 use json::{Value, Writer};
 use lsp_texts::Position;
 use std::alloc::AllocError;
-use text_bytes::decimal_below;
 use text_json::{write_number, write_word};
 
-/// The numbers of the protocol are below this, 2^31.
-const NUMBERS: u64 = 0x8000_0000;
-
-/// The number that a value is, if it is one of decimal digits alone and below 2^31.
+/// The number that a value is, if it is a whole one that is not below zero; 2^32 - 1 for a greater one.
 pub(crate) fn number_of(value: &Value<'_>) -> Option<u32>
     ensures { result ≡ number_of (value_view value.now) }
 {
     let text = value.as_number()?;
-    let number = decimal_below(NUMBERS, text.as_bytes())?;
-    Some(number as u32)
+    whole_number(text.as_bytes())
 }
 
 /// The number that a member is.
@@ -30,7 +26,7 @@ pub(crate) fn number_at(value: &Value<'_>, name: &str) -> Option<u32>
     number_of(value.get(name)?)
 }
 
-/// The position that a value is: its members `line` and `character`, each a number of decimal digits alone below 2^31.
+/// The position that a value is: its members `line` and `character`, each a whole number that is not below zero.
 #[tactic(auto, unfolding(crate::specs::Positions::position_of))]
 pub fn position_of(value: &Value<'_>) -> Option<Position>
     ensures { result ≡ position_of (value_view value.now) }

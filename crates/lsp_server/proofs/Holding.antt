@@ -1,5 +1,5 @@
 -- The documents that a server holds: they may be held, whatever comes.
-use Rattle.std.proofs.Common.{◌≡◌, Bool, true, false, List, [], ◌∷◌, Option, Some, None, cond, fold, refl, ap, ◌∙◌}
+use Rattle.std.proofs.Common.{◌≡◌, Bool, true, false, List, [], ◌∷◌, Option, Some, None, cond, ap, ◌∙◌}
 use Rattle.std.specs.Prelude.{ℕ, codes}
 use Rattle.std.specs.Str.{bytes_eq}
 use Rattle.text_tables.specs.Pairs.{value_of}
@@ -12,12 +12,12 @@ use Rattle.lsp_messages.specs.Messages.{MessageValue, invalid, message_of, notif
 use Rattle.lsp_messages.specs.Parameters.{OpenedValue, opened_of, uri_of, version_of}
 use Rattle.lsp_texts.proofs.Holding.{held_without, still_held}
 use Rattle.lsp_texts.specs.ChangeValues.{ChangeValue}
-use Rattle.lsp_texts.specs.Changes.{all_changed}
-use Rattle.lsp_texts.specs.Documents.{may_be_held}
+use Rattle.lsp_texts.specs.Documents.{may_be_held, text_after}
 use Rattle.lsp_texts.specs.declared.documents.Document.{Document}
+use Rattle.lsp_texts.specs.declared.documents.Document.TheVariants.{InStep, OutOfStep}
 use Rattle.lsp_server.proofs.Answering.{request_answered}
 use Rattle.lsp_server.specs.Contents.{notified, step_by, step_of, told_of, value_of_content, step}
-use Rattle.lsp_server.specs.Documents.{changed, changed_by, closed, opened}
+use Rattle.lsp_server.specs.Documents.{changed, changed_by, changed_to, closed, lost, opened}
 use Rattle.lsp_server.specs.Laws.{after_all}
 use Rattle.lsp_server.specs.Replies.{after}
 use Rattle.lsp_server.specs.Servers.{Server, Step, is_silent}
@@ -30,18 +30,25 @@ Holds server = may_be_held server.documents ≡ true
 
 opened_held : (server : Server) (asked : Option OpenedValue) → Holds server → Holds (opened server asked).server
 opened_held server None h = h
-opened_held server (Some o) h = still_held server.documents o.uri (record { version = o.version; text = o.text }) h
+opened_held server (Some o) h = still_held server.documents o.uri (InStep o.version o.text) h
+
+lost_held : (server : Server) (uri : Text) (found : Option Document) → Holds server → Holds (lost server uri found).server
+lost_held server uri None h = h
+lost_held server uri (Some document) h = still_held server.documents uri OutOfStep h
+
+by_text : (server : Server) (uri : Text) (version : Option ℕ) (text : Option Text) → Holds server → Holds (changed_to server uri version text).server
+by_text server uri version None h = h
+by_text server uri version (Some text) h = still_held server.documents uri (InStep version text) h
 
 by_changes : (server : Server) (uri : Text) (version : Option ℕ) (changes : List ChangeValue) (found : Option Document) → Holds server
     → Holds (changed_by server uri version changes found).server
 by_changes server uri version changes None h = h
-by_changes server uri version changes (Some document) h =
-    still_held server.documents uri (record { version = version; text = all_changed server.encoding document.text changes }) h
+by_changes server uri version changes (Some document) h = by_text server uri version (text_after server.encoding document changes) h
 
 changed_held : (server : Server) (uri : Option Text) (version : Option ℕ) (changes : Option (List ChangeValue)) → Holds server
     → Holds (changed server uri version changes).server
 changed_held server (Some uri) version (Some changes) h = by_changes server uri version changes (value_of server.documents uri) h
-changed_held server (Some uri) version None h = h
+changed_held server (Some uri) version None h = lost_held server uri (value_of server.documents uri) h
 changed_held server None version changes h = h
 
 closed_held : (server : Server) (uri : Option Text) → Holds server → Holds (closed server uri).server

@@ -1,5 +1,6 @@
 mod Answering
 mod ContentValues
 mod Holding
+mod Lost
 mod Others
 mod Reports

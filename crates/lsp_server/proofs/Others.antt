@@ -11,10 +11,11 @@ use Rattle.lsp_messages.specs.Changes.{changes_of}
 use Rattle.lsp_messages.specs.Parameters.{OpenedValue, opened_of, uri_of, version_of}
 use Rattle.lsp_texts.proofs.Holding.{others_found}
 use Rattle.lsp_texts.specs.ChangeValues.{ChangeValue}
-use Rattle.lsp_texts.specs.Changes.{all_changed}
+use Rattle.lsp_texts.specs.Documents.{text_after}
 use Rattle.lsp_texts.specs.declared.documents.Document.{Document}
+use Rattle.lsp_texts.specs.declared.documents.Document.TheVariants.{InStep, OutOfStep}
 use Rattle.lsp_server.specs.Contents.{notified}
-use Rattle.lsp_server.specs.Documents.{changed, changed_by, closed, opened}
+use Rattle.lsp_server.specs.Documents.{changed, changed_by, changed_to, closed, lost, opened}
 use Rattle.lsp_server.specs.Servers.{Server, Step, is_silent}
 use Rattle.lsp_server.specs.declared.server.Phase.{Phase}
 use Rattle.lsp_server.specs.declared.server.Phase.TheVariants.{Down, Fresh, Running}
@@ -28,18 +29,29 @@ open_stays : (server : Server) (other : Text) (asked : Option OpenedValue) (o : 
     → Stays server other (opened server asked)
 open_stays server other asked o is apart =
     ap (λ found. value_of (opened server found).server.documents other) is
-    ∙ others_found server.documents o.uri (record { version = o.version; text = o.text }) other apart
+    ∙ others_found server.documents o.uri (InStep o.version o.text) other apart
+
+-- another one is lost, if it is open
+lose_stays : (server : Server) (other uri : Text) (found : Option Document) → same_text other uri ≡ false → Stays server other (lost server uri found)
+lose_stays server other uri None apart = refl
+lose_stays server other uri (Some document) apart = others_found server.documents uri OutOfStep other apart
+
+-- another one is changed, if its text is known then
+change_to_stays : (server : Server) (other uri : Text) (version : Option ℕ) (text : Option Text) → same_text other uri ≡ false
+    → Stays server other (changed_to server uri version text)
+change_to_stays server other uri version None apart = refl
+change_to_stays server other uri version (Some text) apart = others_found server.documents uri (InStep version text) other apart
 
 -- another one is changed, if it is open
 change_by_stays : (server : Server) (other uri : Text) (version : Option ℕ) (changes : List ChangeValue) (found : Option Document) → same_text other uri ≡ false
     → Stays server other (changed_by server uri version changes found)
 change_by_stays server other uri version changes None apart = refl
 change_by_stays server other uri version changes (Some document) apart =
-    others_found server.documents uri (record { version = version; text = all_changed server.encoding document.text changes }) other apart
+    change_to_stays server other uri version (text_after server.encoding document changes) apart
 
 changes_stay : (server : Server) (other uri : Text) (version : Option ℕ) (changes : Option (List ChangeValue)) → same_text other uri ≡ false
     → Stays server other (changed server (Some uri) version changes)
-changes_stay server other uri version None apart = refl
+changes_stay server other uri version None apart = lose_stays server other uri (value_of server.documents uri) apart
 changes_stay server other uri version (Some changes) apart = change_by_stays server other uri version changes (value_of server.documents uri) apart
 
 -- another one is closed

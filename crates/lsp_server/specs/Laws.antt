@@ -1,14 +1,15 @@
 -- What laws say of what a server sends.
 use Rattle.std.specs.Prelude.{◌≡◌, ◌⊎◌, List, [], ◌∷◌, fold, Option, Some, codes}
 use Rattle.text_bytes.specs.Text.{Text}
+use Rattle.text_tables.specs.Pairs.{without_name}
 use Rattle.json.specs.Json.{Json}
 use Rattle.lsp_sessions.specs.declared.frames.Item.{Item}
-use Rattle.lsp_messages.specs.Parameters.{OpenedValue, version_of}
+use Rattle.lsp_messages.specs.Parameters.{OpenedValue}
 use Rattle.lsp_messages.specs.Responses.{error_of, response_of}
 use Rattle.lsp_messages.specs.declared.errors.ErrorCode.{ErrorCode}
-use Rattle.lsp_texts.specs.ChangeValues.{ChangeValue}
-use Rattle.lsp_texts.specs.Changes.{all_changed}
+use Rattle.lsp_texts.specs.Documents.{with_document}
 use Rattle.lsp_texts.specs.declared.documents.Document.{Document}
+use Rattle.lsp_texts.specs.declared.documents.Document.TheVariants.{InStep, OutOfStep}
 use Rattle.lsp_server.specs.Replies.{after}
 use Rattle.lsp_server.specs.Servers.{Server}
 
@@ -27,8 +28,11 @@ after_all server items = fold after server items
 
 -- what is held of a document that was opened
 abbrev pub as_document : OpenedValue → Document
-as_document opened = record { version = opened.version; text = opened.text }
+as_document opened = InStep opened.version opened.text
 
--- what is held of a document after changes of a notification with these parameters
-abbrev pub as_changed : Server → (params : Json) → List ChangeValue → Document → Document
-as_changed server params changes document = record { version = version_of params; text = all_changed server.encoding document.text changes }
+-- a server for which a document is out of step, and one for which it is not open
+abbrev pub out_of_step : Server → (uri : Text) → Server
+out_of_step server uri = record server { documents = with_document server.documents uri OutOfStep }
+
+abbrev pub not_open : Server → (uri : Text) → Server
+not_open server uri = record server { documents = without_name server.documents uri }

@@ -12,21 +12,23 @@ ghost use Rattle.lsp_sessions.specs.declared.frames.Item.TheVariants.{Content, N
 ghost use Rattle.lsp_messages.specs.Changes.{changes_of};
 ghost use Rattle.lsp_messages.specs.Messages.{notification, request};
 ghost use Rattle.lsp_messages.specs.Options.{options_of};
-ghost use Rattle.lsp_messages.specs.Parameters.{OpenedValue, opened_of, uri_of};
+ghost use Rattle.lsp_messages.specs.Parameters.{OpenedValue, opened_of, uri_of, version_of};
 ghost use Rattle.lsp_messages.specs.Responses.{response_of};
 ghost use Rattle.lsp_messages.specs.declared.errors.ErrorCode.TheVariants.{InvalidRequest, ParseError, ServerNotInitialized};
 ghost use Rattle.lsp_server.specs.Beginning.{encoding_of, settings_asked};
 ghost use Rattle.lsp_server.specs.Capabilities.{initialized};
 ghost use Rattle.lsp_server.specs.Contents.{step, step_of, value_of_content};
-ghost use Rattle.lsp_server.specs.Documents.{published, unpublished};
+ghost use Rattle.lsp_server.specs.Documents.{not_held, published, unpublished};
 ghost use Rattle.lsp_server.specs.Errors.{error_for};
-ghost use Rattle.lsp_server.specs.Laws.{IsAnswerTo, after_all, as_changed, as_document, document_methods};
+ghost use Rattle.lsp_server.specs.Laws.{IsAnswerTo, after_all, as_document, document_methods, not_open, out_of_step};
 ghost use Rattle.lsp_server.specs.Servers.{Server, first, sends};
+ghost use Rattle.lsp_server.specs.declared.publishing.Reason.TheVariants as because;
 ghost use Rattle.lsp_server.specs.declared.server.Phase.TheVariants.{Down, Fresh, Running};
 ghost use Rattle.lsp_settings.specs.Settings.{Settings};
 ghost use Rattle.lsp_texts.specs.ChangeValues.{ChangeValue};
-ghost use Rattle.lsp_texts.specs.Documents.{may_be_held};
+ghost use Rattle.lsp_texts.specs.Documents.{has_whole, may_be_held, text_after};
 ghost use Rattle.lsp_texts.specs.declared.documents.Document.{Document};
+ghost use Rattle.lsp_texts.specs.declared.documents.Document.TheVariants.{InStep, OutOfStep};
 
 /// Each request is answered with its id, and changes no document.
 pub fn requests_are_answered()
@@ -85,19 +87,34 @@ pub fn what_is_opened_is_held_until_it_is_closed()
         → step_of server (notification (codes "textDocument/didOpen") (Some params))
         ≡ record {
           server = record server { documents = with_value server.documents opened.uri (as_document opened) };
-          sent = Some (published server opened.uri (as_document opened));
+          sent = Some (published server opened.uri opened.version opened.text);
         } }
-    ensures changed { (server : Server) (params : Json) (uri : Text) (changes : List ChangeValue) (document : Document) → server.phase ≡ Running
-        → uri_of params ≡ Some uri → changes_of params ≡ Some changes → value_of server.documents uri ≡ Some document
-        → may_be_held (with_value server.documents uri (as_changed server params changes document)) ≡ true
+    ensures changed { (server : Server) (params : Json) (uri : Text) (changes : List ChangeValue) (document : Document) (text : Text)
+        → server.phase ≡ Running → uri_of params ≡ Some uri → changes_of params ≡ Some changes → value_of server.documents uri ≡ Some document
+        → text_after server.encoding document changes ≡ Some text
+        → may_be_held (with_value server.documents uri (InStep (version_of params) text)) ≡ true
         → step_of server (notification (codes "textDocument/didChange") (Some params))
         ≡ record {
-          server = record server { documents = with_value server.documents uri (as_changed server params changes document) };
-          sent = Some (published server uri (as_changed server params changes document));
+          server = record server { documents = with_value server.documents uri (InStep (version_of params) text) };
+          sent = Some (published server uri (version_of params) text);
         } }
     ensures closed { (server : Server) (params : Json) (uri : Text) → server.phase ≡ Running → uri_of params ≡ Some uri
         → step_of server (notification (codes "textDocument/didClose") (Some params))
         ≡ record { server = record server { documents = without_name server.documents uri }; sent = Some (unpublished uri) } }
+{}
+
+/// After changes of a document that are not understood nothing is answered from the text that it had: one diagnostic says that it is
+/// out of step, and each request is answered as if it were not open. Changes of parts of it change nothing then, and are not answered.
+pub fn what_is_out_of_step_is_not_used()
+    ensures told { (server : Server) (params : Json) (uri : Text) (document : Document) → server.phase ≡ Running → uri_of params ≡ Some uri
+        → changes_of params ≡ None → value_of server.documents uri ≡ Some document
+        → step_of server (notification (codes "textDocument/didChange") (Some params))
+        ≡ record { server = out_of_step server uri; sent = Some (not_held uri because.OutOfStep) } }
+    ensures asked { (server : Server) (uri : Text) (id : Json) (method : Text) (params : Option Json)
+        → (step_of (out_of_step server uri) (request id method params)).sent ≡ (step_of (not_open server uri) (request id method params)).sent }
+    ensures changed { (server : Server) (params : Json) (uri : Text) (changes : List ChangeValue) → server.phase ≡ Running → uri_of params ≡ Some uri
+        → changes_of params ≡ Some changes → has_whole changes ≡ false → value_of server.documents uri ≡ Some OutOfStep
+        → step_of server (notification (codes "textDocument/didChange") (Some params)) ≡ record { server = server; sent = None } }
 {}
 
 /// `initialize` with settings that there are begins: the server says what it can do, and reports by these settings from then

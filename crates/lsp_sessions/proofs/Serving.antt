@@ -1,5 +1,5 @@
 -- From the steps of a session to what it serves.
-use Rattle.std.proofs.Common.{◌≡◌, ℕ, ◌<◌, ◌⊎◌, inl, inr, List, [], ◌++◌, Option, Some, None, Result, Ok, Err, length, refl, ap, sym, ◌∙◌, subst, arith}
+use Rattle.std.proofs.Common.{◌≡◌, ℕ, ◌<◌, inl, inr, List, [], ◌++◌, Option, Some, None, Result, Ok, Err, length, refl, ap, sym, ◌∙◌, subst, arith}
 use Rattle.std.proofs.lemmas.List.{append-nil}
 use Rattle.text_bytes.specs.Text.{Text}
 use Rattle.engine_ends.specs.Counts.{Counts}
@@ -14,7 +14,7 @@ use Rattle.engine_sessions.specs.Turns.{joined}
 use Rattle.engine_sessions.proofs.Serving.{at_memory, begun-first, begun-following, begun-taken, cut_by, memory_most, memory_status, messages_cut, none_is, not_four, not_under, reports_begun, rest_reported}
 use Rattle.lsp_sessions.specs.Servers.{Server, said_of}
 use Rattle.lsp_sessions.specs.Outcomes.{outcome_of, session_outcome, status_of}
-use Rattle.lsp_sessions.specs.Runs.{Replies, ServesEditor}
+use Rattle.lsp_sessions.specs.Runs.{Replies, SaysWhy, ServesEditor}
 use Rattle.lsp_sessions.specs.Taking.{StopsIn, opened}
 use Rattle.lsp_sessions.specs.Inputs.{Concludes, ServesInput}
 use Rattle.lsp_sessions.specs.declared.replying.Exit.{Exit}
@@ -152,17 +152,17 @@ module _ {A : Type 0} (messages : Text) (server : Server A) (status : ℕ) (befo
   served_over (Err Write) t c = over_write t c (three write_failed status after now.err c)
   served_over (Err Memory) t c = over_memory t c
 
-  concluded : (end : Result (Option Exit) SessionFault) → Concludes end status after now.err → (now.err ≡ after) ⊎ ((line : Text) × (wanted : ℕ) × ReportsFailure line wanted status after now.err)
-  concluded (Ok exit) c = inl c.1
-  concluded (Err Read) c = inr (read_failed, 3, c)
-  concluded (Err Write) c = inr (write_failed, 3, c)
-  concluded (Err Memory) c = inr (out_of_memory, 4, c)
+  concluded : (end : Result (Option Exit) SessionFault) (t : ServesInput server end (devices_of before) (devices_of now)) → Concludes end status after now.err → SaysWhy (length t.read) status after before now
+  concluded (Ok exit) t c = inl (omega (arith, c.0, small_status exit), c.1)
+  concluded (Err Read) t c = inr (inl (t.faults, c))
+  concluded (Err Write) t c = let s = t.ends in inr (inr (inl (subst (λ n. Counts 1 n now.out.faults) (writes_well before.out s.after s.said s.writes) s.stops.failed, c)))
+  concluded (Err Memory) t c = let s = t.ends in inr (inr (inr (t.faults, ap (λ sink. sink.faults) s.stops ∙ writes_well before.out s.after s.said s.writes, c)))
 
   pub served : (end : Result (Option Exit) SessionFault) → ServesInput server end (devices_of before) (devices_of now) → Concludes end status after now.err → ServesEditor messages server status before now
   served end t c =
       let s = served_over end t c in
       let steps : Replies messages server t.read status before now = record {
-        order = inr (record { after = after; says = says; concludes = concluded end c });
+        order = inr (record { after = after; says = says; concludes = concluded end t c });
         reads = t.reads;
         goes_on = t.goes_on;
         due = t.due;

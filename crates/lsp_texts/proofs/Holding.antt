@@ -10,7 +10,7 @@ use Rattle.text_tables.proofs.Found.{value_removed, value_set}
 use Rattle.text_bytes.specs.Text.{Text}
 use Rattle.text_tables.specs.Texts.{same_text}
 use Rattle.text_tables.specs.Pairs.{value_of, with_value, without_name}
-use Rattle.lsp_texts.specs.Documents.{bytes_of, may_be_held, with_document}
+use Rattle.lsp_texts.specs.Documents.{bytes_of, may_be_held, size_of, with_document}
 use Rattle.lsp_texts.specs.declared.documents.Document.{Document}
 
 -- what passes a test has no greater sum
@@ -28,7 +28,7 @@ pub held_without : (documents : List (Text × Document)) (uri : Text) → may_be
 held_without documents uri h =
     let test : Text × Document → Bool = λ pair. not (same_text uri pair.0) in
     both (length documents) (bytes_of documents) (length (without_name documents uri)) (bytes_of (without_name documents uri)) 1024 67108864
-    (length_of_some test documents) (sum_of_some test (λ (document : Text × Document). length document.1.text) documents) h
+    (length_of_some test documents) (sum_of_some test (λ (document : Text × Document). size_of document.1) documents) h
 
 -- a name that was set and is taken away is as if it had only been taken away
 pub set_and_removed : (documents : List (Text × Document)) (uri : Text) (document : Document) → without_name (with_value documents uri document) uri ≡ without_name documents uri

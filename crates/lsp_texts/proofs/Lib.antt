@@ -2,6 +2,7 @@ pub mod Characters
 pub mod Counted
 pub mod Fits
 pub mod Holding
+pub mod Known
 pub mod Landing
 pub mod Reaching
 pub mod Starting

@@ -2,8 +2,11 @@
 ghost use Rattle.std.specs.Prelude.{◌≡◌, [], length, map, option_copied, true, IfOk, OnOk, OnErr};
 ghost use Rattle.text_tables.specs.Texts.{AreOnce};
 ghost use Rattle.text_tables.specs.Pairs.{names, value_of, with_value, without_name};
-ghost use Rattle.lsp_texts.specs.Documents.{may_be_held, with_document};
+ghost use Rattle.lsp_texts.specs.Documents.{has_whole, is_whole, may_be_held, size_of, text_after, with_document};
 
+use crate::changes::Change;
+use crate::counting::Encoding;
+use crate::edited::all_changed;
 use indexmap::IndexMap;
 use std::alloc::{AllocError, Global};
 use std::marker::Model;
@@ -15,13 +18,66 @@ pub const MAX_DOCUMENTS: usize = 1024;
 /// How many bytes the texts of all documents have at most: 64 MiB.
 pub const MAX_BYTES: usize = 67_108_864;
 
-/// A document: its version, if it has one, and its text.
+/// A document that is open.
 #[derive(Drop)]
-pub struct Document {
-    /// The version that the editor gave it.
-    pub version: Option<u32>,
-    /// Its text.
-    pub text: Bytes,
+pub enum Document {
+    /// Its text is that of the editor.
+    InStep {
+        /// The version that the editor gave it, if it gave one.
+        version: Option<u32>,
+        /// The text.
+        text: Bytes,
+    },
+    /// What the editor shows is not known: a change of it was not understood. No text of it is held.
+    OutOfStep,
+}
+
+/// Whether a change is a text in place of all.
+fn is_whole(change: &Change<'_>) -> bool
+    ensures { result ≡ is_whole change.now }
+{
+    change.range().is_none()
+}
+
+/// Whether one of the changes is a text in place of all.
+fn has_whole(changes: &[Change<'_>]) -> bool
+    ensures { result ≡ has_whole changes.now }
+{
+    changes.iter().any(is_whole)
+}
+
+impl Document {
+    /// How many bytes of it are held.
+    fn size(&self) -> usize
+        ensures { result ≡ size_of self.now }
+    {
+        match self {
+            Document::InStep { text, .. } => text.as_slice().len(),
+            Document::OutOfStep => 0,
+        }
+    }
+
+    /// Its text after changes, one after another. Of a document that is out of step it is known again if one of them is a
+    /// text in place of all.
+    pub fn text_after(
+        &self,
+        alloc: Global,
+        encoding: Encoding,
+        changes: &[Change<'_>],
+    ) -> Result<Option<Bytes>, AllocError>
+        ensures { IfOk result (λ after. after ≡ text_after encoding self.now changes.now) }
+    {
+        match self {
+            Document::InStep { text, .. } => {
+                let text = all_changed(alloc, encoding, text.as_slice(), changes)?;
+                Ok(Some(text))
+            }
+            Document::OutOfStep if has_whole(changes) => {
+                Ok(Some(all_changed(alloc, encoding, b"", changes)?))
+            }
+            Document::OutOfStep => Ok(None),
+        }
+    }
 }
 
 /// Documents by their names, in the order in which they came.
@@ -52,11 +108,11 @@ fn may_be_held(held: &IndexMap<Vec<u8>, Document>) -> bool
     }
     let mut left = MAX_BYTES;
     for document in held.values() {
-        let len = document.text.as_slice().len();
-        if len > left {
+        let size = document.size();
+        if size > left {
             return false;
         }
-        left -= len;
+        left -= size;
     }
     true
 }

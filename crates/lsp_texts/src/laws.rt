@@ -9,8 +9,8 @@ ghost use Rattle.text_bytes.specs.Text.{Text};
 ghost use Rattle.text_tables.specs.Texts.{same_text};
 ghost use Rattle.text_tables.specs.Pairs.{value_of, with_value};
 ghost use Rattle.lsp_texts.specs.ChangeValues.{ChangeValue};
-ghost use Rattle.lsp_texts.specs.Changes.{changed};
-ghost use Rattle.lsp_texts.specs.Documents.{may_be_held, with_document};
+ghost use Rattle.lsp_texts.specs.Changes.{all_changed, changed};
+ghost use Rattle.lsp_texts.specs.Documents.{has_whole, may_be_held, text_after, with_document};
 ghost use Rattle.lsp_texts.specs.Examples.{two_rows};
 ghost use Rattle.lsp_texts.specs.Places.{IsPlace};
 ghost use Rattle.lsp_texts.specs.Rows.{line_of, offset_of, position_of, start_of};
@@ -19,6 +19,7 @@ ghost use Rattle.lsp_texts.specs.Units.{fitting, units};
 ghost use Rattle.lsp_texts.specs.declared.counting.Encoding.{Encoding};
 ghost use Rattle.lsp_texts.specs.declared.counting.Encoding.TheVariants.{Utf8, Utf16};
 ghost use Rattle.lsp_texts.specs.declared.documents.Document.{Document};
+ghost use Rattle.lsp_texts.specs.declared.documents.Document.TheVariants.{OutOfStep};
 ghost use Rattle.lsp_texts.specs.declared.rows.Position.{Position};
 
 /// A place is found again by its position, in a text of at most 64 MiB.
@@ -73,6 +74,14 @@ pub fn documents_are_found()
         → value_of (with_document documents uri document) uri ≡ (if may_be_held (with_value documents uri document) then Some document else None) }
     ensures others { (documents : List (Text × Document)) (uri : Text) (document : Document) (other : Text) → same_text other uri ≡ false
         → value_of (with_document documents uri document) other ≡ value_of documents other }
+{}
+
+/// The text of a document that is out of step is known again after a text in place of all, and only then: it is the same after these
+/// changes, whatever it was before them.
+pub fn whole_texts_bring_documents_back()
+    ensures back { (encoding : Encoding) (changes : List ChangeValue) (before : Text) → has_whole changes ≡ true
+        → text_after encoding OutOfStep changes ≡ Some (all_changed encoding before changes) }
+    ensures away { (encoding : Encoding) (changes : List ChangeValue) → has_whole changes ≡ false → text_after encoding OutOfStep changes ≡ None }
 {}
 
 /// Whatever is put, documents stay within the limits.

@@ -20,5 +20,6 @@ pub use laws::{
     changes_keep_utf8, changes_of_a_text, documents_are_bounded, documents_are_found,
     empty_changes_change_nothing, most_that_fits, places_are_in_their_rows, places_come_back,
     places_of_a_text, positions_name_places, rows_of_a_text, units_are_those_of_characters,
+    whole_texts_bring_documents_back,
 };
 pub use rows::{Position, Rows};

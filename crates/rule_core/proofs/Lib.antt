@@ -9,5 +9,6 @@ mod Adding
 mod Filing
 mod Passing
 mod Counting
+mod Noting
 pub mod TokensCounted
 mod Cuts

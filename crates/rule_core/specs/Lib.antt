@@ -15,4 +15,5 @@ pub mod Places
 pub mod Gathering
 pub mod Rules
 pub mod Counts
+pub mod Notes
 pub mod FaultTexts

@@ -34,7 +34,7 @@ fn line_tokens(line: &LandedReading<'_>) -> Result<usize, AllocError>
 }
 
 /// How many tokens are left in a rule: its names for jumps, and its other parts.
-fn draft_tokens(draft: &Draft<'_>, landing: Landing) -> Result<usize, AllocError>
+pub(crate) fn draft_tokens(draft: &Draft<'_>, landing: Landing) -> Result<usize, AllocError>
     ensures { IfOk result (λ count. count ≡ draft_tokens draft.now landing) }
 {
     let label = if draft.label.is_some() { 1 } else { 0 };

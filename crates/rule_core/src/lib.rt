@@ -7,21 +7,23 @@
 //! turned into newlines first, by `files_as_read`.
 #![tactic(auto)]
 
-mod checking;
 mod counts;
 mod draft;
 mod draft_reading;
 mod effects;
 mod fault;
+mod findings;
 mod gathered;
 mod joined;
 mod joining;
 mod kinds;
+mod landed_lines;
 mod letters;
 mod line_ends;
 mod line_fault;
 mod messages;
 mod names;
+mod notes;
 mod pieces;
 mod places;
 mod read_set;
@@ -33,18 +35,20 @@ mod sums;
 mod text;
 mod turns;
 
-pub use checking::rule_messages;
 pub use counts::{MAX_TOKENS, token_count};
 pub use draft::Draft;
 pub use fault::RulesFault;
+pub use findings::line_findings;
 pub use joined::{JoinedLine, JoinedLines};
 pub use joining::joined_lines;
+pub use landed_lines::LandedLines;
 pub use line_ends::{abandoned_at, file_as_read, files_as_read, is_too_long};
 pub use names::NamePlace;
+pub use notes::{LineNotes, note_lines};
 pub use places::{between, following};
 pub use read_set::ReadRules;
 pub use reading::{read_rules, read_rules_as};
-pub use readings::{LandedReading, Reading, read_lines};
+pub use readings::{LandedReading, Reading, read_line, read_lines};
 pub use rule_templates::{Piece, Template, TemplateFault};
 pub use rule_tokens::{Operator, Quote, Span, Token, TokenFault, TokenFaultKind, Tokens, unquote};
 pub use rule_types::{

@@ -5,6 +5,7 @@
 ghost use Rattle.std.specs.Prelude.{◌≡◌, ◌++◌, [], Some, IfOk, OnOk};
 ghost use Rattle.text_bytes.specs.declared.profile.Profile.TheVariants.{Manual};
 ghost use Rattle.rule_core.specs.Drafts.{given_twice, lost_name, name_place};
+ghost use Rattle.rule_core.specs.Rules.{name_of};
 ghost use Rattle.rule_core.specs.Taking.{again, first_given, label_given, label_said, names_given, with_name};
 
 use file_messages::MessageKind;
@@ -165,5 +166,15 @@ fn given_twice(name: NamePlace) -> Spot<MessageKind>
         word: name,
         start,
         size,
+    }
+}
+
+/// A name, if there is one, without its place.
+pub(crate) fn name_of(given: Option<NamePlace>) -> Option<Bytes>
+    ensures { result ≡ name_of given }
+{
+    match given {
+        None => None,
+        Some(NamePlace { name, .. }) => Some(name),
     }
 }

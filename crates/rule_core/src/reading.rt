@@ -15,7 +15,7 @@ use crate::joining::joined_lines;
 use crate::kinds::Kinds;
 use crate::line_ends::abandoned_at;
 use crate::messages::{Place, report, report_abandoned, report_all, report_if, report_open};
-use crate::names::NamePlace;
+use crate::names::name_of;
 use crate::read_set::ReadRules;
 use crate::readings::{LandedReading, Reading, read_lines};
 use file_messages::{Message, MessageKind};
@@ -218,16 +218,6 @@ fn rule_of(
         results,
         sets,
     })
-}
-
-/// A name, if there is one, without its place.
-fn name_of(given: Option<NamePlace>) -> Option<Bytes>
-    ensures { result ≡ name_of given }
-{
-    match given {
-        None => None,
-        Some(NamePlace { name, .. }) => Some(name),
-    }
 }
 
 /// A rule's jump, which is dropped if it is lost.

@@ -2,8 +2,9 @@
 //!
 //! A line that is not a rule is kept here with what is wrong with it, so that the lines, what is said about them
 //! and their jumps stay side by side.
-ghost use Rattle.std.specs.Prelude.{◌≡◌, ◌++◌, IfOk, OnOk, map, option_map, zip};
+ghost use Rattle.std.specs.Prelude.{◌≡◌, IfOk, map, option_map};
 ghost use Rattle.rule_jumps.specs.Jumps.{landings};
+ghost use Rattle.rule_core.specs.Notes.{nowhere, relanded};
 ghost use Rattle.rule_core.specs.Rules.{landed, name_of, names_of, reading_of};
 
 use crate::draft::Draft;
@@ -11,6 +12,7 @@ use crate::draft_reading::read_draft;
 use crate::joined::JoinedLine;
 use crate::line_fault::LineFault;
 use crate::names::NamePlace;
+use crate::notes::{NOWHERE, first_landing};
 use file_messages::MessageKind;
 use rule_jumps::{Jump, Landing, landings};
 use rule_types::Spot;
@@ -63,44 +65,55 @@ pub fn read_lines<'a>(
 ) -> Result<Vec<LandedReading<'a>>, AllocError>
     ensures { IfOk result (λ read. read.items ≡ landed (map (reading_of profile) lines.now)) }
 {
-    let readings = readings_of(alloc, profile, lines)?;
-    let landings = landings_of(alloc, &readings)?;
-    let mut landed = Vec::with_capacity(alloc, readings.len())?;
-    land(&mut landed, readings, landings)?;
+    let mut landed = readings_of(alloc, profile, lines)?;
+    let landings = landings_of(alloc, &landed)?;
+    land(&mut landed, &landings);
     Ok(landed)
 }
 
-/// Adds lines, each with what becomes of its jump and of its label.
-fn land<'a>(
-    landed: &mut Vec<LandedReading<'a>>,
-    readings: Vec<Reading<'a>>,
-    landings: Vec<Landing>,
-) -> Result<(), AllocError>
-    ensures { OnOk result (landed.new.items ≡ landed.old.items ++ zip readings.entry.items landings.items) }
+/// Sets what becomes of the jumps and of the labels of lines.
+fn land(landed: &mut Vec<LandedReading<'_>>, landings: &[Landing])
+    ensures { landed.new.items ≡ relanded landed.old.items landings.now }
 {
-    for (reading, landing) in readings.into_iter().zip(landings) {
-        landed.push(LandedReading { reading, landing })?;
+    let mut rest = landings;
+    for line in landed.iter_mut() {
+        let (landing, left) = first_landing(rest);
+        line.landing = landing;
+        rest = left;
     }
-    Ok(())
 }
 
-/// Reads joined lines as rules.
+/// Reads joined lines as rules, whatever becomes of their jumps and labels.
 fn readings_of<'a>(
     alloc: Global,
     profile: Profile,
     lines: &'a [JoinedLine<'_>],
-) -> Result<Vec<Reading<'a>>, AllocError>
-    ensures { IfOk result (λ readings. readings.items ≡ map (reading_of profile) lines.now) }
+) -> Result<Vec<LandedReading<'a>>, AllocError>
+    ensures { IfOk result (λ read. read.items ≡ map (λ r. (r, nowhere)) (map (reading_of profile) lines.now)) }
 {
-    let mut readings = Vec::with_capacity(alloc, lines.len())?;
+    let mut landed = Vec::with_capacity(alloc, lines.len())?;
     for line in lines {
-        readings.push(read_line(alloc, profile, line)?)?;
+        let mut reading = read_line(alloc, profile, line)?;
+        shrink(&mut reading.read);
+        landed.push(LandedReading {
+            reading,
+            landing: NOWHERE,
+        })?;
     }
-    Ok(readings)
+    Ok(landed)
+}
+
+/// Gives room back that the parts of a rule do not need.
+fn shrink(read: &mut Result<Draft<'_>, Spot<MessageKind>>)
+    ensures { read.new ≡ read.old }
+{
+    if let Ok(draft) = read {
+        draft.parts.shrink_to(0);
+    }
 }
 
 /// Reads a joined line as a rule.
-fn read_line<'a>(
+pub fn read_line<'a>(
     alloc: Global,
     profile: Profile,
     line: &'a JoinedLine<'_>,
@@ -121,12 +134,12 @@ fn read_line<'a>(
 }
 
 /// What becomes of the jumps of lines.
-fn landings_of(alloc: Global, readings: &[Reading<'_>]) -> Result<Vec<Landing>, AllocError>
-    ensures { IfOk result (λ found. found.items ≡ landings (map (λ r. names_of r.read) readings.now)) }
+fn landings_of(alloc: Global, readings: &[LandedReading<'_>]) -> Result<Vec<Landing>, AllocError>
+    ensures { IfOk result (λ found. found.items ≡ landings (map (λ x. names_of x.0.read) readings.now)) }
 {
     let mut jumps = Vec::with_capacity(alloc, readings.len())?;
-    for reading in readings {
-        jumps.push(jump_of(&reading.read))?;
+    for line in readings {
+        jumps.push(jump_of(&line.reading.read))?;
     }
     landings(alloc, &jumps)
 }
@@ -142,7 +155,7 @@ fn jump_of<'r>(read: &'r Result<Draft<'_>, Spot<MessageKind>>) -> Jump<'r>
 }
 
 /// Returns a name, if there is one.
-fn borrowed(given: &Option<NamePlace>) -> Option<&[u8]>
+pub(crate) fn borrowed(given: &Option<NamePlace>) -> Option<&[u8]>
     ensures { option_map (λ t. t.now) result ≡ name_of given.now }
 {
     match given {

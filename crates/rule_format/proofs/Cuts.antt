@@ -1,9 +1,8 @@
 -- What is written of a line that is cut is what is written of it whole.
 use Rattle.std.proofs.Common.{◌≡◌, ℕ, ◌+◌, ◌-◌, ◌<◌, ◌≤◌, Bool, true, false, cond, ◌&&◌, nat_lt, None, List, ◌∷◌, [], ◌++◌, length, take, drop, refl, sym, ◌∙◌, ap, append_assoc, append-nil, arith, ◌⊎◌, inl, inr}
 use Rattle.std.specs.Prelude.{max, min, nat_le}
-use Rattle.std.specs.List.{flat_map}
 use Rattle.std.proofs.lemmas.List.{drop-drop, drop-take, take-append-drop, take-take}
-use Rattle.rule_tokens.specs.Grammar.{Gap, LexesAt, Placed, TokenAt, answers, last, more}
+use Rattle.rule_tokens.specs.Grammar.{LexesAt, Placed, answers, last, more}
 use Rattle.rule_tokens.specs.Lines.{items_of}
 use Rattle.rule_tokens.proofs.IsPresent.{rest_is_shorter}
 use Rattle.rule_core.specs.Style.{between}

@@ -1,5 +1,5 @@
 -- The first line of a text ends with its first newline.
-use Rattle.std.proofs.Common.{◌≡◌, ℕ, suc, ◌+◌, ◌-◌, ◌<◌, ◌≤◌, Bool, true, false, cond, not, ◌==◌, List, ◌∷◌, [], length, take, drop, Some, None, refl, sym, ◌∙◌, ap, arith}
+use Rattle.std.proofs.Common.{◌≡◌, ℕ, suc, ◌+◌, ◌-◌, ◌<◌, ◌≤◌, true, false, cond, not, ◌==◌, List, ◌∷◌, [], length, take, drop, Some, None, refl, sym, ◌∙◌, ap, arith}
 use Rattle.std.specs.List.{onto_first, position, position_or_len}
 use Rattle.text_bytes.proofs.Places.{ends_line, position_none, position_some, tail}
 use Rattle.rule_format.specs.WholeLines.{whole_lines}

@@ -1,3 +1,4 @@
+pub mod Firsts
 pub mod Cutting
 pub mod Pairs
 pub mod Staying

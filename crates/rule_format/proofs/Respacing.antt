@@ -1,11 +1,11 @@
 -- A line whose commas and blanks are mended has the tokens that it had, and nothing is left to mend.
-use Rattle.std.proofs.Common.{◌≡◌, ℕ, suc, zero, ◌+◌, ◌-◌, ◌<◌, ◌≤◌, Bool, true, false, cond, ◌&&◌, ◌||◌, ◌==◌, nat_lt, List, ◌∷◌, [], ◌++◌, length, take, drop, map, Option, Some, None, refl, sym, ◌∙◌, ap, subst, append_assoc, append-nil, arith, length-append}
+use Rattle.std.proofs.Common.{◌≡◌, ℕ, ◌+◌, ◌-◌, ◌<◌, ◌≤◌, Bool, true, false, cond, ◌&&◌, ◌==◌, nat_lt, List, ◌∷◌, [], ◌++◌, length, take, drop, map, Option, None, refl, sym, ◌∙◌, ap, subst, append_assoc, append-nil, arith, length-append}
 use Rattle.std.specs.Prelude.{max, min, nat_le}
 use Rattle.std.specs.List.{flat_map}
 use Rattle.std.proofs.lemmas.List.{drop-drop, drop_at, take_at}
 use Rattle.std.proofs.lemmas.Bool.{and_parts}
 use Rattle.text_bytes.specs.Names.{double_quote}
-use Rattle.rule_tokens.specs.Grammar.{AllAre, BeginsOther, BeginsWithHead, BeginsWithToken, Gap, LexesAt, Parts, Placed, TokenAt, answers, attribute_text, is_gap_byte, is_key_byte, last, more, operator_text}
+use Rattle.rule_tokens.specs.Grammar.{AllAre, BeginsOther, BeginsWithToken, LexesAt, Parts, Placed, answers, attribute_text, is_gap_byte, is_key_byte, last, more, operator_text}
 use Rattle.rule_tokens.specs.Lines.{items_left, items_of}
 use Rattle.rule_tokens.specs.declared.kinds.Span.{Span}
 use Rattle.rule_tokens.specs.declared.kinds.TokenFault.{TokenFault}
@@ -13,10 +13,9 @@ use Rattle.rule_tokens.proofs.Lines.{answers_same, given, only}
 use Rattle.rule_tokens.proofs.Pieces.{other_byte}
 use Rattle.rule_core.specs.Style.{between, commas}
 use Rattle.rule_format.specs.Gaps.{is_good_after, is_good_gap}
-use Rattle.rule_format.specs.Laws.{IsRespaced, respaced}
-use Rattle.rule_format.specs.Rewritten.{written_between, written_of}
-use Rattle.rule_format.specs.Stretches.{stretch_before, stretches_from}
-use Rattle.rule_format.specs.declared.stretches.Stretch.{Stretch}
+use Rattle.rule_format.specs.Laws.{IsRespaced}
+use Rattle.rule_format.specs.Rewritten.{written_of}
+use Rattle.rule_format.specs.Stretches.{stretches_from}
 
 -- a key is not a gap
 no_gap : (c : ℕ) → is_key_byte c ≡ true → is_gap_byte c ≡ false

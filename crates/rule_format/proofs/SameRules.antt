@@ -1,7 +1,7 @@
 -- A file that was mended has the same rules, and the same messages but those on style.
 use Rattle.std.proofs.Common.{◌≡◌, ℕ, Bool, true, false, cond, ◌&&◌, not, nat_lt, List, ◌∷◌, [], ◌++◌, length, map, Option, Some, None, Result, Ok, Err, refl, sym, ◌∙◌, ap, subst, option_map}
 use Rattle.std.proofs.lemmas.List.Elements.{filter-append}
-use Rattle.std.specs.List.{AllByRecursion, cons_option, filter, filter_map, flat_map, list_all, zip}
+use Rattle.std.specs.List.{AllByRecursion, cons_option, filter_map, flat_map, list_all, zip}
 use Rattle.file_messages.specs.declared.message.Message.{Message}
 use Rattle.file_messages.specs.declared.message.MessageKind.{MessageKind}
 use Rattle.file_messages.specs.declared.message.MessageKind.TheVariants.{LineTooLong, LabelUnused, NoLaterLabel}
@@ -9,7 +9,7 @@ use Rattle.text_bytes.specs.Texts.{first}
 use Rattle.text_bytes.specs.declared.profile.Profile.TheVariants.{Manual}
 use Rattle.text_bytes.specs.declared.source_file.SourceFile.{SourceFile}
 use Rattle.file_messages.specs.Messages.{is_style}
-use Rattle.rule_tokens.specs.Grammar.{Item, Parts, Placed}
+use Rattle.rule_tokens.specs.Grammar.{Item, Placed}
 use Rattle.rule_types.specs.Rules.{Rule}
 use Rattle.rule_types.specs.declared.part.Part.{Part}
 use Rattle.rule_jumps.specs.Jumps.{landings}
@@ -18,12 +18,12 @@ use Rattle.rule_parts.specs.Parts.{part_of}
 use Rattle.rule_parts.specs.declared.finding.Finding.{Finding}
 use Rattle.rule_core.specs.Drafts.{Draft, acts_of, draft, draft_of, draft_with, goto_at, goto_in, items_as, label_at, label_in, name_place, part_of_item, parts_of, plain_in, result_in, sets_of, up_in, with_part, written_part}
 use Rattle.rule_core.specs.Lines.{NumberedLine, joined_lines}
-use Rattle.rule_core.specs.Rules.{Reading, file_messages, file_rules, findings_of, line_findings, line_messages, line_rules, message_at, name_of, name_spot, names_of, open_messages, reading_of, rule_at}
+use Rattle.rule_core.specs.Rules.{Reading, file_messages, file_rules, findings_of, line_messages, line_rules, message_at, name_of, name_spot, names_of, open_messages, reading_of, rule_at}
 use Rattle.rule_core.specs.Spots.{whole_spot}
-use Rattle.rule_types.specs.Tokens.{WrittenPart, parts_in, tokens_in}
+use Rattle.rule_types.specs.Tokens.{WrittenPart, parts_in}
 use Rattle.rule_core.specs.declared.names.NamePlace.{NamePlace}
 use Rattle.rule_types.specs.declared.spot.Spot.{Spot}
-use Rattle.rule_format.specs.Faults.{is_badly_spaced, is_faultless, is_sound, is_to_mend, parts_read}
+use Rattle.rule_format.specs.Faults.{is_badly_spaced, is_sound, is_to_mend, parts_read}
 use Rattle.rule_format.specs.Laws.{Correspond, IsAsItWas, but_style, said, with_bytes}
 use Rattle.rule_format.specs.Mended.{mended}
 use Rattle.rule_format.specs.Proposed.{Landed, landed_in}

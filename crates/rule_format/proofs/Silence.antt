@@ -11,11 +11,11 @@ use Rattle.rule_parts.specs.Parts.{is_read_as_assign}
 use Rattle.rule_core.specs.Drafts.{Draft}
 use Rattle.rule_types.specs.Spots.{spot}
 use Rattle.rule_core.specs.Spots.{key_spot}
-use Rattle.rule_core.specs.Style.{between, comma_findings, commas, gap_findings, has_blank_before_comma, leading_findings, operator_findings, style_after, style_findings, whole_gap}
+use Rattle.rule_core.specs.Style.{between, commas, gap_findings, has_blank_before_comma, leading_findings, operator_findings, style_after}
 use Rattle.rule_types.specs.Tokens.{tokens_in}
 use Rattle.rule_types.specs.declared.spot.Spot.{Spot}
 use Rattle.rule_jumps.specs.declared.jumps.Landing.{Landing}
-use Rattle.rule_format.specs.Faults.{is_badly_spaced, is_faultless, is_to_mend}
+use Rattle.rule_format.specs.Faults.{is_badly_spaced, is_faultless}
 use Rattle.rule_format.specs.Gaps.{is_good_after, is_good_gap, is_well_spaced}
 use Rattle.rule_format.specs.Laws.{IsMended, IsSilent, is_about_spacing, is_silent}
 use Rattle.rule_format.specs.Mended.{mended}

@@ -1,8 +1,7 @@
 -- A file in which nothing is to mend stays as it is.
-use Rattle.std.proofs.Common.{◌≡◌, ℕ, ◌+◌, ◌-◌, Bool, true, false, cond, ◌==◌, List, ◌∷◌, [], ◌++◌, drop, refl, sym, ◌∙◌, ap, append_assoc, append-nil}
+use Rattle.std.proofs.Common.{◌≡◌, ℕ, ◌+◌, Bool, true, false, cond, ◌==◌, List, ◌∷◌, [], ◌++◌, drop, refl, sym, ◌∙◌, ap, append_assoc, append-nil}
 use Rattle.std.specs.List.{AllByRecursion, onto_first}
 use Rattle.rule_format.specs.Alike.{is_mended}
-use Rattle.rule_format.specs.Faults.{is_to_mend, parts_read}
 use Rattle.rule_format.specs.Laws.{IsMended}
 use Rattle.rule_format.specs.Mended.{mended}
 use Rattle.rule_format.specs.Proposed.{Landed, landed_in, lines_left, mended_run, proposed, proposed_from, run_written}

@@ -1,5 +1,5 @@
 -- What is read again is what was mended.
-use Rattle.std.proofs.Common.{◌≡◌, ◌⊎◌, inl, inr, ℕ, Bool, true, false, cond, ◌&&◌, ◌||◌, not, ◌==◌, List, ◌∷◌, [], map, Option, Some, None, Result, Ok, Err, refl, sym, ◌∙◌, ap, arith}
+use Rattle.std.proofs.Common.{◌≡◌, ◌⊎◌, inl, inr, ℕ, Bool, true, false, cond, ◌&&◌, ◌||◌, not, ◌==◌, List, ◌∷◌, [], map, Option, Some, None, Result, Ok, Err, refl, sym, ◌∙◌, ap}
 use Rattle.std.proofs.lemmas.Bool.{eqb-true}
 use Rattle.std.proofs.lemmas.Slice.Eq.{bytes_eq-Decides}
 use Rattle.std.specs.Prelude.{nat_eq}
@@ -10,7 +10,7 @@ use Rattle.std.specs.Option.{option_eq}
 use Rattle.std.specs.List.{AllByRecursion}
 use Rattle.text_bytes.specs.declared.profile.Profile.TheVariants.{Manual}
 use Rattle.text_tables.specs.Texts.{same_text}
-use Rattle.rule_tokens.specs.Grammar.{Head, Parts, Placed}
+use Rattle.rule_tokens.specs.Grammar.{Parts}
 use Rattle.rule_tokens.specs.declared.kinds.Operator.{Operator}
 use Rattle.rule_tokens.specs.declared.kinds.Operator.TheVariants as op
 use Rattle.rule_tokens.specs.declared.kinds.Quote.{Quote}
@@ -22,13 +22,13 @@ use Rattle.rule_types.specs.Tokens.{WrittenPart, same_operator, tokens_in}
 use Rattle.rule_types.specs.declared.spot.Spot.{Spot}
 use Rattle.file_messages.specs.declared.message.MessageKind.{MessageKind}
 use Rattle.rule_format.specs.Gaps.{is_well_spaced}
-use Rattle.rule_format.specs.Alike.{is_idle, is_mended, is_mended_line, same_attribute, same_if_idle, same_landing, same_part, same_quote, same_token, says_same, stands_for}
+use Rattle.rule_format.specs.Alike.{is_idle, is_mended, is_mended_line, same_attribute, same_if_idle, same_landing, same_part, same_quote, says_same, stands_for}
 use Rattle.rule_format.specs.Faults.{is_badly_spaced, is_faultless, is_sound, is_to_mend, parts_read}
 use Rattle.rule_format.specs.Laws.{Correspond, IsAsItWas, IsMended, StaysIfIdle, said}
 use Rattle.rule_format.specs.Mended.{mended}
 use Rattle.rule_format.specs.Proposed.{Landed, landed_in, proposed}
 use Rattle.rule_format.specs.WholeLines.{whole_lines}
-use Rattle.rule_format.proofs.Staying.{files_stay, proposed_stays}
+use Rattle.rule_format.proofs.Staying.{files_stay}
 
 -- both of two answers
 left : (a b : Bool) → (a && b) ≡ true → a ≡ true

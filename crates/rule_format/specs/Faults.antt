@@ -6,7 +6,7 @@ use Rattle.file_messages.specs.Messages.{is_style}
 use Rattle.file_messages.specs.declared.message.MessageKind.{MessageKind}
 use Rattle.rule_jumps.specs.declared.jumps.Landing.{Landing}
 use Rattle.rule_core.specs.Drafts.{Draft}
-use Rattle.rule_core.specs.Rules.{Reading, findings_of}
+use Rattle.rule_core.specs.Rules.{Reading}
 use Rattle.rule_types.specs.Tokens.{WrittenPart, tokens_in}
 use Rattle.rule_types.specs.declared.spot.Spot.{Spot}
 use Rattle.rule_format.specs.Gaps.{is_well_spaced}

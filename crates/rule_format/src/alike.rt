@@ -1,32 +1,54 @@
 //! Rules files that are read alike.
-ghost use Rattle.std.specs.Prelude.{◌≡◌, option_map, zip};
+ghost use Rattle.std.specs.Prelude.{◌≡◌, ◌∷◌, ◌&&◌, List, IfOk, drop, option_map, zip};
 ghost use Rattle.std.specs.Cmp.Lexicographic.{pointwise};
 ghost use Rattle.rule_format.specs.Alike.{is_idle, is_mended_line, same_attribute, same_if_idle, same_landing};
 ghost use Rattle.rule_format.specs.Alike.{same_part, same_quote, same_token, says_same, stands_for};
 ghost use Rattle.rule_format.specs.Faults.{parts_read};
 ghost use Rattle.rule_types.specs.Tokens.{same_operator};
 ghost use Rattle.std.specs.List.{list_all};
+ghost use Rattle.rule_format.specs.Proposed.{Landed};
 ghost use Rattle.rule_format.specs.WholeLines.{whole_lines};
 
 use crate::faults::{is_sound, is_to_mend};
 use crate::lines::{WholeLine, WholeLines};
-use rule_core::{LandedReading, Operator, Quote, Token, WrittenPart};
+use rule_core::{LandedLines, LandedReading, Operator, Quote, Token, WrittenPart};
 use rule_jumps::Landing;
+use std::alloc::{AllocError, Global};
 
 /// Whether these are the joined lines of a file that was mended.
-pub(crate) fn are_mended_lines(old: &[LandedReading<'_>], new: &[LandedReading<'_>]) -> bool
-    ensures { result ≡ pointwise is_mended_line old.now new.now }
+pub(crate) fn are_mended_lines(
+    alloc: Global,
+    old: LandedLines<'_>,
+    new: LandedLines<'_>,
+) -> Result<bool, AllocError>
+    ensures { IfOk result (λ same. same ≡ pointwise is_mended_line old.entry new.entry) }
 {
-    old.len() == new.len() && all_mended(old, new)
+    let mut rest = old;
+    let mut own = new;
+    while let Some(line) = rest.first(alloc)? {
+        if !is_first_mended(alloc, &line, &own)? {
+            return Ok(false);
+        }
+        rest = rest.others();
+        own = own.others();
+    }
+    let further = own.first(alloc)?;
+    Ok(further.is_none())
 }
 
-/// Whether each of these lines is one that was mended, as far as there are both.
-fn all_mended(old: &[LandedReading<'_>], new: &[LandedReading<'_>]) -> bool
-    ensures { result ≡ list_all (λ pair. is_mended_line pair.0 pair.1) (zip old.now new.now) }
+/// Whether the first of some lines is one that was mended.
+fn is_first_mended(
+    alloc: Global,
+    line: &LandedReading<'_>,
+    own: &LandedLines<'_>,
+) -> Result<bool, AllocError>
+    ensures { IfOk result (λ same. (rest : List Landed) → pointwise is_mended_line (line.now ∷ rest) own.now
+        ≡ (same && pointwise is_mended_line rest (drop 1 own.now))) }
 {
-    old.iter()
-        .zip(new)
-        .all(|(line, own)| is_mended_line(line, own))
+    match own.first(alloc)? {
+        None => Ok(false),
+        Some(own) => Ok(is_mended_line(line, &own)),
+    }
 }
 
 /// Whether a joined line is one that was mended, as it has to be.

@@ -10,7 +10,7 @@ ghost use Rattle.rule_format.specs.Proposed.{landed_in, proposed};
 
 use crate::alike::{are_mended_lines, keeps_idle_lines};
 use crate::proposing::proposed_by;
-use rule_core::{joined_lines, read_lines};
+use rule_core::{LandedLines, joined_lines, note_lines};
 use std::alloc::{AllocError, Global};
 use text_bytes::{Bytes, Profile};
 
@@ -28,34 +28,35 @@ use text_bytes::{Bytes, Profile};
 pub fn mended_rules(alloc: Global, bytes: &[u8]) -> Result<Bytes, AllocError>
     ensures { IfOk result (λ written. written ≡ mended bytes.now) }
 {
-    let written = proposed(alloc, bytes)?;
-    if is_mended(alloc, bytes, &written)? {
+    let joined = joined_lines(alloc, Profile::Manual, bytes)?;
+    let notes = note_lines(alloc, Profile::Manual, joined.lines())?;
+    let lines = LandedLines::new(Profile::Manual, joined.lines(), &notes.landings);
+    let written = proposed_by(alloc, bytes, lines.copied())?;
+    if written.as_slice() == bytes || is_mended(alloc, bytes, joined.open_at(), lines, &written)? {
         Ok(Bytes::new(written))
     } else {
         Bytes::copy_of(alloc, bytes)
     }
 }
 
-/// A file with these bytes, mended, before it is read again.
-fn proposed(alloc: Global, bytes: &[u8]) -> Result<Vec<u8>, AllocError>
-    ensures { IfOk result (λ written. written.items ≡ proposed bytes.now) }
-{
-    let joined = joined_lines(alloc, Profile::Manual, bytes)?;
-    let lines = read_lines(alloc, Profile::Manual, joined.lines())?;
-    proposed_by(alloc, bytes, &lines)
-}
-
-/// Whether a file is another that was mended.
-fn is_mended(alloc: Global, old: &[u8], new: &[u8]) -> Result<bool, AllocError>
+/// Whether a file with these joined lines, of which one may be open at its end, is another that was mended.
+fn is_mended(
+    alloc: Global,
+    old: &[u8],
+    open_at: Option<u32>,
+    lines: LandedLines<'_>,
+    new: &[u8],
+) -> Result<bool, AllocError>
+    requires open { open_at ≡ (joined_lines Manual old.now).open_at }
+    requires lines { lines ≡ landed_in old.now }
     ensures { IfOk result (λ same. same ≡ is_mended old.now new.now) }
 {
-    let joined = joined_lines(alloc, Profile::Manual, old)?;
-    let others = joined_lines(alloc, Profile::Manual, new)?;
-    let lines = read_lines(alloc, Profile::Manual, joined.lines())?;
-    let own = read_lines(alloc, Profile::Manual, others.lines())?;
-    Ok(
-        joined.open_at() == others.open_at()
-            && keeps_idle_lines(old, new)
-            && are_mended_lines(&lines, &own),
-    )
+    let joined = joined_lines(alloc, Profile::Manual, new)?;
+    let keeps = open_at == joined.open_at() && keeps_idle_lines(old, new);
+    if !keeps {
+        return Ok(false);
+    }
+    let notes = note_lines(alloc, Profile::Manual, joined.lines())?;
+    let own = LandedLines::new(Profile::Manual, joined.lines(), &notes.landings);
+    are_mended_lines(alloc, lines, own)
 }

@@ -7,16 +7,16 @@ use crate::faults::is_to_mend;
 use crate::lines::WholeLines;
 use crate::rewriting::add_rewritten;
 use crate::stretches::stretches;
-use rule_core::{LandedReading, sum_of};
+use rule_core::{LandedLines, LandedReading, sum_of};
 use std::alloc::{AllocError, Global};
 
 /// A file with these bytes and joined lines, mended.
 pub(crate) fn proposed_by(
     alloc: Global,
     bytes: &[u8],
-    lines: &[LandedReading<'_>],
+    lines: LandedLines<'_>,
 ) -> Result<Vec<u8>, AllocError>
-    ensures { IfOk result (λ written. written.items ≡ proposed_from lines.now [] 0 (whole_lines bytes.now)) }
+    ensures { IfOk result (λ written. written.items ≡ proposed_from lines.entry [] 0 (whole_lines bytes.now)) }
 {
     let mut lines = lines;
     let mut written = Vec::new(alloc);
@@ -26,7 +26,7 @@ pub(crate) fn proposed_by(
         run.extend_from_slice(line.bytes())?;
         size = sum_of(size, line.given_size())?;
         if line.ends_joined() {
-            add_run(alloc, &mut written, lines, &run, size)?;
+            add_run(alloc, &mut written, &lines, &run, size)?;
             lines = lines_left(lines, size);
             run = Vec::new(alloc);
             size = 0;
@@ -41,33 +41,26 @@ pub(crate) fn proposed_by(
 fn add_run(
     alloc: Global,
     written: &mut Vec<u8>,
-    lines: &[LandedReading<'_>],
+    lines: &LandedLines<'_>,
     run: &[u8],
     size: usize,
 ) -> Result<(), AllocError>
     ensures { OnOk result (written.new.items ≡ written.old.items ++ run_written lines.now run.now size) }
 {
-    match lines.first() {
+    if size == 0 {
+        return written.extend_from_slice(run);
+    }
+    match lines.first(alloc)? {
         None => written.extend_from_slice(run),
-        Some(line) => {
-            if size == 0 {
-                written.extend_from_slice(run)
-            } else {
-                add_line(alloc, written, line, run)
-            }
-        }
+        Some(line) => add_line(alloc, written, &line, run),
     }
 }
 
 /// The joined lines still to come after such a run.
-fn lines_left<'r, 'a>(lines: &'r [LandedReading<'a>], size: usize) -> &'r [LandedReading<'a>]
-    ensures { result.now ≡ lines_left lines.now size }
+fn lines_left(lines: LandedLines<'_>, size: usize) -> LandedLines<'_>
+    ensures { result ≡ lines_left lines.entry size }
 {
-    if size == 0 {
-        lines
-    } else {
-        &lines[lines.len().min(1)..]
-    }
+    if size == 0 { lines } else { lines.others() }
 }
 
 /// Adds the lines that make a joined line, mended if that is to be mended.

@@ -10,11 +10,16 @@ use Rattle.std.specs.Prelude.{ℤ}
 use Rattle.std.proofs.lemmas.Cmp.{int_eq_equiv}
 use Rattle.text_bytes.specs.Text.{Text}
 use Rattle.text_tables.specs.Texts.{is_among, same_text}
+use Rattle.file_messages.specs.declared.message.MessageKind.{MessageKind}
+use Rattle.file_messages.specs.declared.message.MessageKind.TheVariants.{MatchesExclude, SaidTwice}
 use Rattle.rule_tokens.specs.declared.kinds.Operator.{Operator}
 use Rattle.rule_tokens.specs.declared.kinds.Operator.TheVariants as op
 use Rattle.rule_types.specs.Tokens.{same_operator}
 use Rattle.rule_pairs.specs.Relations.{are_alike, are_disjoint, are_opposite, is_against, is_same, is_wordless, lacks_words, same_form, same_matter, same_way, same_words}
+use Rattle.rule_pairs.specs.Pairs.{are_related, message_of}
 use Rattle.rule_pairs.specs.Said.{Said}
+use Rattle.rule_pairs.specs.declared.pair_finding.PairKind.{PairKind}
+use Rattle.rule_pairs.specs.declared.pair_finding.PairKind.TheVariants.{Same, Against}
 use Rattle.rule_pairs.specs.declared.form.Form.{Form}
 use Rattle.rule_pairs.specs.declared.form.Form.TheVariants as form
 use Rattle.rule_pairs.proofs.Beginnings.{first_holds, second_holds}
@@ -125,3 +130,12 @@ never_both a b h =
     let alike : are_alike a b ≡ true = first_holds (are_alike a b) (same_operator a.operator b.operator) h in
     let one : same_operator a.operator b.operator ≡ true = second_holds (are_alike a b) (same_operator a.operator b.operator) h in
     ap (λ (x : Bool). cond x (are_opposite a.operator b.operator) (are_disjoint a b)) alike ∙ not_opposite a.operator b.operator one
+
+-- the message about a pair, by whether both tokens say the same
+pub message_is : (kind : PairKind) (a b : Said) → are_related kind a b ≡ true → message_of kind ≡ cond (is_same a b) SaidTwice MatchesExclude
+message_is Same a b h = ap (λ (t : Bool). cond {A = MessageKind} t SaidTwice MatchesExclude) (sym h)
+message_is Against a b h = by (is_same a b) refl
+  where
+    by : (t : Bool) → is_same a b ≡ t → MatchesExclude ≡ cond {A = MessageKind} (is_same a b) SaidTwice MatchesExclude
+    by true e = absurd (true≢false (sym h ∙ never_both a b e))
+    by false e = ap (λ (t : Bool). cond {A = MessageKind} t SaidTwice MatchesExclude) (sym e)

@@ -1,11 +1,12 @@
 //! Laws of pairs of tokens, each the contract of a function with an empty body.
-ghost use Rattle.std.specs.Prelude.{◌≡◌, ◌≤◌, ◌↔◌, ◌&&◌, [], not, true, false, nat_eq, List, filter, length, option_map};
+ghost use Rattle.std.specs.Prelude.{◌≡◌, ◌≤◌, ◌↔◌, ◌&&◌, [], if◌then◌else◌, not, true, false, nat_eq, List, filter, length, option_map};
 ghost use Rattle.std.specs.List.{find, slice_split, starts_with};
 ghost use Rattle.text_core.specs.Choices.{is_bar};
 ghost use Rattle.text_bytes.specs.Text.{Text};
 ghost use Rattle.text_tables.specs.Texts.{is_among};
 ghost use Rattle.text_bytes.specs.Texts.{is_empty};
-ghost use Rattle.rule_pairs.specs.Pairs.{Pair, finding, is_of_kind, reported_for, same_kind};
+ghost use Rattle.file_messages.specs.declared.message.MessageKind.TheVariants.{MatchesExclude, SaidTwice};
+ghost use Rattle.rule_pairs.specs.Pairs.{Pair, are_related, finding, is_of_kind, message_of, reported_for, same_kind};
 ghost use Rattle.rule_pairs.specs.Relations.{are_alike, is_against, is_same, part_ways, same_words};
 ghost use Rattle.rule_pairs.specs.Said.{Said};
 ghost use Rattle.rule_pairs.specs.Words.{parts_of};
@@ -22,6 +23,12 @@ pub fn likeness_has_no_order()
 #[tactic(auto, using(crate::proofs::Likeness::never_both))]
 pub fn no_pair_is_of_both_kinds()
     ensures { (a b : Said) → is_same a b ≡ true → is_against a b ≡ false }
+{}
+
+/// The message about a pair says that it is said twice if both tokens say the same, and otherwise that they exclude each other.
+#[tactic(auto, using(crate::proofs::Likeness::message_is))]
+pub fn what_two_tokens_say_makes_the_message()
+    ensures { (kind : PairKind) (a b : Said) → are_related kind a b ≡ true → message_of kind ≡ (if is_same a b then SaidTwice else MatchesExclude) }
 {}
 
 /// The first pair of each kind is reported, and no other.

@@ -19,7 +19,8 @@ pub use accounts::{Account, AccountKind, Accounts, Given, given_in};
 pub use examples::{some_act_kinds, some_matches};
 pub use laws::{
     likeness_has_no_order, no_pair_is_of_both_kinds, no_text_begins_with_both,
-    same_words_are_one_set, the_first_pair_of_a_kind_is_reported, words_are_the_parts_between_bars,
+    same_words_are_one_set, the_first_pair_of_a_kind_is_reported,
+    what_two_tokens_say_makes_the_message, words_are_the_parts_between_bars,
 };
 pub use pair_finding::{PairFinding, PairKind};
 pub use pairs::pair_findings;

@@ -6,10 +6,9 @@ ghost use Rattle.rule_places.specs.Placed.{placed};
 
 use crate::kept::KeptLines;
 use crate::placed_finding::PlacedFinding;
-use crate::placed_spots::{place_spots, placed};
+use crate::placed_spots::place_spots;
 use file_messages::MessageKind;
-use rule_core::{Draft, LandedReading, NamePlace, Reading, Spot, sum_of};
-use rule_jumps::Landing;
+use rule_core::{LandedReading, line_findings, sum_of};
 use std::alloc::{AllocError, Global};
 use text_bytes::Bytes;
 
@@ -64,88 +63,10 @@ fn place_line(
     ensures found { OnOk result (found.new.items ≡ found.old.items ++ placed_line kept.now start line.entry) }
     ensures next { IfOk result (λ next. next ≡ start + length line.entry.0.text) }
 {
-    let LandedReading { reading, landing } = line;
-    let Reading { line, text, read } = reading;
-    match read {
-        Ok(draft) => place_draft(alloc, found, kept, line, start, draft, landing)?,
-        Err(wrong) => found.push(placed(kept, line, start, wrong)?)?,
-    }
-    sum_of(start, text.len())
-}
-
-/// Adds the findings about a rule: first about its jump, and about its label last.
-fn place_draft(
-    alloc: Global,
-    found: &mut Vec<PlacedFinding<MessageKind>>,
-    kept: &KeptLines,
-    number: u32,
-    start: usize,
-    draft: Draft<'_>,
-    landing: Landing,
-) -> Result<(), AllocError>
-    ensures { OnOk result (found.new.items ≡ found.old.items ++ map (placed kept.now number start) (findings_of draft.entry landing)) }
-{
-    let Draft {
-        label,
-        goto,
-        parts,
-        findings,
-    } = draft;
-    drop(parts);
-    let lost = MessageKind::NoLaterLabel;
-    let unused = MessageKind::LabelUnused;
-    place_name(alloc, found, kept, number, start, landing.lost, lost, goto)?;
-    place_spots(found, kept, number, start, findings)?;
-    place_name(
-        alloc,
-        found,
-        kept,
-        number,
-        start,
-        landing.unused,
-        unused,
-        label,
-    )
-}
-
-/// Adds a finding about a name, if anything is wrong with it.
-fn place_name(
-    alloc: Global,
-    found: &mut Vec<PlacedFinding<MessageKind>>,
-    kept: &KeptLines,
-    number: u32,
-    start: usize,
-    wrong: bool,
-    kind: MessageKind,
-    given: Option<NamePlace>,
-) -> Result<(), AllocError>
-    ensures { OnOk result (found.new.items ≡ found.old.items ++ map (placed kept.now number start) (if wrong then name_spot kind given ∷ [] else [])) }
-{
-    if wrong {
-        let spot = name_spot(alloc, kind, given);
-        found.push(placed(kept, number, start, spot)?)?;
-    }
-    Ok(())
-}
-
-/// A finding about a name, which is empty if there is none.
-fn name_spot(alloc: Global, kind: MessageKind, given: Option<NamePlace>) -> Spot<MessageKind>
-    ensures { result ≡ name_spot kind given }
-{
-    match given {
-        None => Spot {
-            kind,
-            word: Bytes::new(Vec::new(alloc)),
-            start: 0,
-            size: 0,
-        },
-        Some(NamePlace { name, start, size }) => Spot {
-            kind,
-            word: name,
-            start,
-            size,
-        },
-    }
+    let number = line.reading.line;
+    let next = sum_of(start, line.reading.text.len())?;
+    place_spots(found, kept, number, start, line_findings(alloc, line)?)?;
+    Ok(next)
 }
 
 /// Adds the finding of a line that is still open at the file's end, if there is one.

@@ -4,11 +4,14 @@ ghost use Rattle.text_bytes.specs.Text.{Text};
 ghost use Rattle.text_core.specs.Fits.{fits};
 ghost use Rattle.text_core.specs.declared.item.Item.{Item};
 ghost use Rattle.rule_tokens.specs.declared.kinds.Operator.TheVariants as op;
+ghost use Rattle.rule_types.specs.Tokens.{WrittenPart};
+ghost use Rattle.rule_lints.specs.declared.lint.Lint.TheVariants.{BlankBesideBar, NeverFits};
 ghost use Rattle.rule_value_lints.specs.Assignments.{changes_device, is_meant_to_match, is_untagged, replaces_list, wants_unit};
-ghost use Rattle.rule_value_lints.specs.Kernel.{writes};
+ghost use Rattle.rule_value_lints.specs.Kernel.{subject_of, writes};
 ghost use Rattle.rule_value_lints.specs.Laws.{is_reported, token};
 ghost use Rattle.rule_value_lints.specs.Near.{known_for};
 ghost use Rattle.rule_value_lints.specs.Never.{never_fits};
+ghost use Rattle.rule_value_lints.specs.ValueLints.{Setting, word_of};
 ghost use Rattle.rule_value_lints.specs.Values.{is_blank_beside_bar, is_long_name, is_no_substitution};
 ghost use Rattle.rule_value_lints.specs.declared.subjects.Subject.{Subject};
 ghost use Rattle.rule_value_lints.specs.declared.subjects.Subject.TheVariants.{Action, Kernel, Devpath, Subsystem, FourDigits, TwoDigits, Removable};
@@ -18,6 +21,13 @@ ghost use Rattle.rule_value_lints.specs.declared.subjects.Subject.TheVariants.{A
 #[tactic(auto, using(crate::proofs::NeverLaw::never_written))]
 pub fn nothing_that_the_kernel_writes_fits()
     ensures { (subject : Subject) (items : List Item) (text : Text) → never_fits subject items ≡ true → fits items text ≡ true → writes subject text ≡ false }
+{}
+
+/// W16 is reported only of a part that looks at what the kernel is known to write, and W17 only of a value with a blank
+/// beside a `|`.
+pub fn each_lint_of_a_value_has_its_reason()
+    ensures never { (s : Setting) (w : WrittenPart) → subject_of w.part ≡ None → word_of s NeverFits w ≡ None }
+    ensures blank { (s : Setting) (w : WrittenPart) → is_blank_beside_bar w.token.parts.value ≡ false → word_of s BlankBesideBar w ≡ None }
 {}
 
 /// Values that are compared with what the kernel writes, of which some are reported.

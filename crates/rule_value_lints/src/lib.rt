@@ -16,8 +16,8 @@ mod values;
 
 pub use assignments::{changes_device, has_key, is_about_tags};
 pub use laws::{
-    nothing_that_the_kernel_writes_fits, some_assignments, some_blanks_beside_bars, some_names,
-    some_substitutions, some_values,
+    each_lint_of_a_value_has_its_reason, nothing_that_the_kernel_writes_fits, some_assignments,
+    some_blanks_beside_bars, some_names, some_substitutions, some_values,
 };
 pub use lints::add_value_lints;
 pub use texts::begins_with_one;

@@ -190,7 +190,7 @@ def percent(text, signs):
 
 def github(found, name, path):
     return b"::%s file=%s,line=%d,col=%d,endColumn=%d,title=%s::%s\n" % (
-        found.severity.encode(), percent(path, b"%\r\n:,"), found.line, found.column, found.end, found.code.encode(),
+        found.severity.encode(), percent(path, b"%:,\x7f" + bytes(range(0x20))), found.line, found.column, found.end, found.code.encode(),
         percent(with_word(found, escaped(found.word)), b"%\r\n"))
 
 
@@ -212,10 +212,12 @@ def columns(text):
     return sum(not 0x80 <= byte < 0xC0 for byte in text)
 
 
-# What a terminal would obey, in UTF-8, and what it shows instead: control characters of two bytes, and marks of direction.
+# What a terminal would obey, in UTF-8, and what it shows instead: control characters of two bytes, marks of direction, and
+# characters that end a line.
 OBEYED = [
     (re.compile(rb"\xC2[\x80-\x9F]"), "\u00BF".encode()),
-    (re.compile(rb"\xE2\x80[\xAA-\xAE]"), "\u203D".encode()),
+    (re.compile("\u061C".encode()), "\u0606".encode()),
+    (re.compile(rb"\xE2\x80[\x8E\x8F\xA8-\xAE]"), "\u203D".encode()),
     (re.compile(rb"\xE2\x81[\xA6-\xA9]"), "\u2047".encode()),
 ]
 # What `human` says about a text that begins with what nobody sees, and about a comma at a line's end, instead of the sentence.
@@ -270,11 +272,16 @@ def gitlab(found, name, path):
     return (shown(path), found.line, severity, found.code, f"{found.code} {shown(with_word(found, escaped(found.word)))}")
 
 
+def line_part(source):
+    """What a fingerprint has of a line: of more than 200 bytes the first 100, how many there are, and the last 100."""
+    return source if len(source) <= 200 else b"%s:%d:%s" % (source[:100], len(source), source[-100:])
+
+
 def with_fingerprints(said, every):
     """What is said about messages, each with its fingerprint: which of those with its code, its path and the text of its line it is."""
     seen, given = Counter(), []
     for it, (found, _, path) in zip(said, every):
-        mark = shown(b":".join([found.code.encode(), path, found.source]))
+        mark = shown(b":".join([found.code.encode(), path, line_part(found.source)]))
         seen[mark] += 1
         given.append((*it, f"{seen[mark]}:{mark}"))
     return given

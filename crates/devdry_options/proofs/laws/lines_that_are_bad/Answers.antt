@@ -1,13 +1,14 @@
-use Rattle.std.proofs.Common.{refl}
+use Rattle.std.proofs.Common.{codes, refl}
 use Rattle.devdry_options.specs.Files.{bad_line}
 use Rattle.devdry_options.specs.Words.{is_word}
 use Rattle.devdry_options.specs.Names.{flag_names, valued_names, repeated_names}
 use Rattle.text_bytes.specs.Texts.{split_once}
+use Rattle.devdry_options.proofs.Utf8.{ascii_is_utf8}
 use Rattle.devdry_options.proofs.laws.lines_that_are_bad.Goals as goal
 
 pub returns : goal.returns
 unfolding bad_line is_word flag_names valued_names repeated_names split_once
 returns c = record {
-  one = λ utf8. rw utf8 refl;
-  none = λ utf8. rw utf8 refl;
+  one = rw (ascii_is_utf8 (codes "--lint") refl) refl;
+  none = rw (ascii_is_utf8 (codes "--lint") refl) refl;
 }

@@ -1,21 +1,23 @@
-use Rattle.std.proofs.Common.{◌≡◌, List, Option, Some, None, IfOk, option_map, refl, ap}
+use Rattle.std.proofs.Common.{◌≡◌, ℕ, List, Option, Some, None, IfOk, refl}
 use Rattle.text_tables.specs.Pairs.{value_of}
 use Rattle.text_bytes.specs.Text.{Text}
 use Rattle.json.specs.Json.{Json}
 use Rattle.lsp_messages.specs.Parameters.{RangedValue}
 use Rattle.lsp_texts.specs.declared.documents.Document.{Document}
+use Rattle.lsp_texts.specs.declared.documents.Document.TheVariants.{InStep, OutOfStep}
 use Rattle.lsp_answers.specs.Queries.{QueryValue, method_of, query_about, query_by, query_in, query_with, range_asked}
 use Rattle.lsp_answers.specs.declared.queries.Method.{Method}
 use Rattle.lsp_answers.proofs.laws.queries_are_about_open_documents.Goals as goal
 
--- the document of a query is open, and has its text
+-- the document of a query is open and in step, and has its text
 abbrev IsAboutOpen : List (Text × Document) → QueryValue → Type 0
-IsAboutOpen documents query = option_map (λ (document : Document). document.text) (value_of documents query.uri) ≡ Some query.text
+IsAboutOpen documents query = (version : Option ℕ) × (value_of documents query.uri ≡ Some (InStep version query.text))
 
 about : (documents : List (Text × Document)) (method : Method) (params : Json) (range : RangedValue) (found : Option Document)
     → value_of documents range.uri ≡ found → IfOk (query_about method params range found) (IsAboutOpen documents)
 about documents method params range None e = tt
-about documents method params range (Some document) e = ap (option_map (λ (document : Document). document.text)) e
+about documents method params range (Some OutOfStep) e = tt
+about documents method params range (Some (InStep version text)) e = (version, e)
 
 ranged : (documents : List (Text × Document)) (method : Method) (params : Json) (range : Option RangedValue)
     → IfOk (query_in documents method params range) (IsAboutOpen documents)

@@ -25,3 +25,11 @@ returns-clause-placed c = refl
 pub returns-clause-ranged : goal.returns-clause-ranged
 unfolding messages_on_literals
 returns-clause-ranged c = refl
+
+pub returns-clause-version : goal.returns-clause-version
+unfolding messages_on_literals
+returns-clause-version c = refl
+
+pub returns-clause-great : goal.returns-clause-great
+unfolding messages_on_literals
+returns-clause-great c = refl

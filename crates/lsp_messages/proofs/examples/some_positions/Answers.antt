@@ -41,3 +41,31 @@ returns-clause-lacking c = refl
 pub returns-clause-range : goal.returns-clause-range
 unfolding messages_on_literals
 returns-clause-range c = refl
+
+pub returns-clause-greatest : goal.returns-clause-greatest
+unfolding messages_on_literals
+returns-clause-greatest c = refl
+
+pub returns-clause-point : goal.returns-clause-point
+unfolding messages_on_literals
+returns-clause-point c = refl
+
+pub returns-clause-both : goal.returns-clause-both
+unfolding messages_on_literals
+returns-clause-both c = refl
+
+pub returns-clause-down : goal.returns-clause-down
+unfolding messages_on_literals
+returns-clause-down c = refl
+
+pub returns-clause-zero : goal.returns-clause-zero
+unfolding messages_on_literals
+returns-clause-zero c = refl
+
+pub returns-clause-small : goal.returns-clause-small
+unfolding messages_on_literals
+returns-clause-small c = refl
+
+pub returns-clause-deep : goal.returns-clause-deep
+unfolding messages_on_literals
+returns-clause-deep c = refl

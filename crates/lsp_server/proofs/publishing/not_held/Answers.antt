@@ -26,5 +26,6 @@ returns c =
       c.new-writer.ensures.before,
       c.new-writer.ensures.tokens,
       c.new.ensures.items,
+      c.said_of.ensures,
     )
     (ap print (report_without_version _ _))

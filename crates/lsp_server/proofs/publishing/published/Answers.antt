@@ -28,7 +28,6 @@ returns c =
       c.new-writer.ensures.before,
       c.new-writer.ensures.tokens,
       c.new.ensures.items,
-      c.as_slice-text.ensures,
       ← c.server.view_is,
     )
     (ap print (report_written _ _ _))

@@ -1,5 +1,6 @@
-use Rattle.std.proofs.Common.{◌≡◌, ◌++◌}
+use Rattle.std.proofs.Common.{◌≡◌, ◌++◌, take, drop}
+use Rattle.rule_core.specs.Notes.{relanded}
 use Rattle.rule_core.proofs.readings.land.Given as goal
 
-abbrev pub invariant-loop-reading : goal.invariant-loop-reading
-invariant-loop-reading l = l.landed.items ≡ l.initial.landed.items ++ l.yielded
+abbrev pub invariant-loop-line : goal.invariant-loop-line
+invariant-loop-line l = take l.line-index l.line-items ++ relanded (drop l.line-index l.line-items) l.rest ≡ relanded l.fn.landed.items l.landings

@@ -2,5 +2,5 @@ use Rattle.std.proofs.Common.{◌≡◌, map, take}
 use Rattle.rule_core.specs.Rules.{names_of}
 use Rattle.rule_core.proofs.readings.landings_of.Given as goal
 
-abbrev pub invariant-loop-reading : goal.invariant-loop-reading
-invariant-loop-reading l = l.jumps.items ≡ map (λ r. names_of r.read) (take l.reading-index l.readings)
+abbrev pub invariant-loop-line : goal.invariant-loop-line
+invariant-loop-line l = l.jumps.items ≡ map (λ x. names_of x.0.read) (take l.line-index l.readings)

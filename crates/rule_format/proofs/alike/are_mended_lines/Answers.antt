@@ -1,10 +1,9 @@
-use Rattle.std.proofs.Common.{◌∙◌}
+use Rattle.std.proofs.Common.{◌∙◌, sym}
 use Rattle.rule_format.specs.Alike.{is_mended_line}
-use Rattle.rule_format.proofs.Pairs.{pairs_of_like, pairs_of_unlike}
+use Rattle.rule_format.proofs.Firsts.{others_alike}
 use Rattle.rule_format.proofs.alike.are_mended_lines.Goals as goal
 
-pub returns-then-old-new : goal.returns-then-old-new
-returns-then-old-new c = c.all_mended.ensures ∙ pairs_of_like is_mended_line c.args.old.now c.args.new.now c.if-old-new.true
-
-pub returns-else-old-new : goal.returns-else-old-new
-returns-else-old-new c = pairs_of_unlike is_mended_line c.args.old.now c.args.new.now c.if-old-new.false
+pub loop-line-preserved-else-not-branch : goal.loop-line-preserved-else-not-branch
+loop-line-preserved-else-not-branch c =
+    others_alike is_mended_line c.loop-line.rest c.loop-line.own c.others-rest.result c.others-own.result c.in-Some.line c.in_ok-is_first_mended.field-0 _
+    (sym c.in_ok-line.ensures ∙ c.in-Some.is) c.in_ok-is_first_mended.ensures (cc) c.others-rest.ensures c.others-own.ensures c.loop-line.invariant

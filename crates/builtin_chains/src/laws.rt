@@ -46,9 +46,11 @@ pub fn paths_show_devices()
 /// `path_id`; beside it `usb_id` for those of USB and for a SCSI device, and `net_id` for a function of PCI, an interface of
 /// USB and a device of virtio.
 pub fn each_kind_is_asked_for_by_its_builtins()
-    ensures function { filter (λ who. asks who Kind.Function) (Asker.UsbId ∷ Asker.PathId ∷ Asker.InputId ∷ Asker.NetId ∷ []) ≡ Asker.PathId ∷ Asker.NetId ∷ [] }
+    ensures function { filter (λ who. asks who Kind.Function) (Asker.UsbId ∷ Asker.PathId ∷ Asker.InputId ∷ Asker.NetId ∷ [])
+        ≡ Asker.PathId ∷ Asker.NetId ∷ [] }
     ensures device { filter (λ who. asks who Kind.UsbDevice) (Asker.UsbId ∷ Asker.PathId ∷ Asker.InputId ∷ Asker.NetId ∷ []) ≡ Asker.UsbId ∷ Asker.PathId ∷ [] }
-    ensures interface { filter (λ who. asks who Kind.UsbInterface) (Asker.UsbId ∷ Asker.PathId ∷ Asker.InputId ∷ Asker.NetId ∷ []) ≡ Asker.UsbId ∷ Asker.PathId ∷ Asker.NetId ∷ [] }
+    ensures interface { filter (λ who. asks who Kind.UsbInterface) (Asker.UsbId ∷ Asker.PathId ∷ Asker.InputId ∷ Asker.NetId ∷ [])
+        ≡ Asker.UsbId ∷ Asker.PathId ∷ Asker.NetId ∷ [] }
     ensures host { filter (λ who. asks who Kind.ScsiParent) (Asker.UsbId ∷ Asker.PathId ∷ Asker.InputId ∷ Asker.NetId ∷ []) ≡ Asker.PathId ∷ [] }
     ensures unit { filter (λ who. asks who Kind.ScsiDevice) (Asker.UsbId ∷ Asker.PathId ∷ Asker.InputId ∷ Asker.NetId ∷ []) ≡ Asker.UsbId ∷ Asker.PathId ∷ [] }
     ensures controller { filter (λ who. asks who Kind.Nvme) (Asker.UsbId ∷ Asker.PathId ∷ Asker.InputId ∷ Asker.NetId ∷ []) ≡ Asker.PathId ∷ [] }

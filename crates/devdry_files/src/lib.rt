@@ -21,6 +21,7 @@ mod real_looks;
 mod real_steps;
 mod real_system;
 mod rooted_disk;
+mod rooted_steps;
 mod step;
 mod system;
 mod walking;

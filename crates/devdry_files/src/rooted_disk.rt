@@ -4,15 +4,16 @@ ghost use Rattle.std.specs.List.{AllZip};
 ghost use Rattle.text_bytes.specs.Text.{Text};
 ghost use Rattle.devdry_files.specs.Answers.Answer.{Content, NoContent, NoListing, NoOwnContent, OwnContent, Looked, Stepped};
 ghost use Rattle.devdry_files.specs.Inside.{IsEntryIn, IsStillFile, IsStillFolder, ListsFolder, ListsIn, ListsNoFolder, MayBy, MayInside};
-ghost use Rattle.devdry_files.specs.Inside.{ReadsFile, ReadsNoFile, StepsAt, StepsBelow, StepsPast};
+ghost use Rattle.devdry_files.specs.Inside.{ReadsFile, ReadsNoFile};
 ghost use Rattle.devdry_files.specs.Inside.{is_file_with, is_folder, is_own_root, unreadable};
 ghost use Rattle.devdry_files.specs.declared.disk.DiskFault.TheVariants.{OutOfMemory};
 ghost use Rattle.devdry_files.specs.Walks.{Comes, LeadsOn, place_in};
 
 use crate::disk::{Disk, DiskFault, Entry};
 use crate::look::Look;
+use crate::rooted_steps::step_after;
 use crate::step::{End, Identity, Step};
-use crate::walking::{is_here, is_up, lead, names_of, path_of, place_in};
+use crate::walking::{lead, names_of, place_in};
 use std::alloc::{AllocError, Global};
 use std::collections::VecDeque;
 use text_bytes::Bytes;
@@ -296,67 +297,6 @@ fn look_in<D: Disk>(alloc: Global, disk: &D, root: &str, path: &str) -> Result<L
             let place = place_in(alloc, root, &way)?;
             disk.look(alloc, place.as_str())
         }
-    }
-}
-
-/// What is at a name in a folder inside a root.
-fn step_to<D: Disk>(
-    alloc: Global,
-    disk: &D,
-    root: &str,
-    way: &[String],
-    name: &str,
-) -> Result<Step, AllocError>
-    ensures { IfOk result (StepsAt (D.may_answer disk.now) root.now (map string_bytes way.now) name.now End.Folder) }
-{
-    if is_here(name) || is_up(name) {
-        return Ok(Step::Folder);
-    }
-    let path = path_of(alloc, root, way, name)?;
-    disk.step(alloc, path.as_str())
-}
-
-/// What is at a name in what a way leads to.
-fn step_at<D: Disk>(
-    alloc: Global,
-    disk: &D,
-    root: &str,
-    way: &[String],
-    end: End,
-    name: &str,
-) -> Result<Step, AllocError>
-    ensures { IfOk result (StepsAt (D.may_answer disk.now) root.now (map string_bytes way.now) name.now end) }
-{
-    match end {
-        End::Folder => step_to(alloc, disk, root, way, name),
-        End::NoWay(look) => Ok(Step::NoWay(look)),
-        End::File(_) | End::Null | End::OddLink => Ok(Step::NoWay(Look::Other)),
-    }
-}
-
-/// What is at a name after others from the root, which are followed.
-fn step_past<D: Disk>(
-    alloc: Global,
-    disk: &D,
-    root: &str,
-    front: VecDeque<String>,
-    name: &str,
-) -> Result<Step, AllocError>
-    ensures { IfOk result (StepsPast (D.may_answer disk.now) root.now (map string_bytes front.items) name.now) }
-{
-    let mut way = Vec::new(alloc);
-    let end = lead(alloc, disk, root, &mut way, front)?;
-    step_at(alloc, disk, root, &way, end, name)
-}
-
-/// What is at the last name of what follows the root, with all names before it followed.
-fn step_after<D: Disk>(alloc: Global, disk: &D, root: &str, rest: &str) -> Result<Step, AllocError>
-    ensures { IfOk result (StepsBelow (D.may_answer disk.now) root.now rest.now) }
-{
-    let mut names = names_of(alloc, rest)?;
-    match names.pop_back() {
-        Some(name) => step_past(alloc, disk, root, names, name.as_str()),
-        None => Ok(Step::Folder),
     }
 }
 

@@ -1,7 +1,8 @@
 //! What each key makes of the text that is assigned to it.
 ghost use Rattle.std.specs.Prelude.{◌≡◌, [], ◌∷◌, ◌++◌, OnOk, OnErr, IfOk};
 ghost use Rattle.text_tables.specs.Pairs.{with_value};
-ghost use Rattle.eval_assignments.specs.Assigning.{assigned, assigned_by_manual, assigned_by_udev, group_set, labels_before, link_text, or_written, owner_set, unless_empty};
+ghost use Rattle.eval_assignments.specs.Assigning.{assigned, assigned_by_manual, assigned_by_udev, group_set, labels_before};
+ghost use Rattle.eval_assignments.specs.Assigning.{link_text, or_written, owner_set, unless_empty};
 
 use crate::attributes::set_attribute;
 use crate::escapes::{Escape, with_underscores};

@@ -3,7 +3,7 @@ use Rattle.std.proofs.lemmas.List.{map-append}
 use Rattle.std.proofs.lemmas.Result.{IfOk-weaker}
 use Rattle.devdry_files.specs.Walks.{names_in}
 use Rattle.devdry_files.proofs.Ways.{some_names}
-use Rattle.devdry_files.proofs.rooted_disk.step_after.Goals as goal
+use Rattle.devdry_files.proofs.rooted_steps.step_after.Goals as goal
 
 pub returns-in-Some : goal.returns-in-Some
 returns-in-Some g c =

@@ -10,9 +10,10 @@ bus=$work/sys/bus
 
 # device PATH SUBSYSTEM DRIVER LINE..: a device below the tree, with `-` for no driver, and the lines of its uevent
 device() {
-    local folder=$sys$1
-    mkdir -p "$folder" "$bus/$2"
-    ln -s "$bus/$2" "$folder/subsystem"
+    local folder=$sys$1 of=$sys/class/$2
+    case $2 in pci | scsi | usb) of=$bus/$2 ;; esac
+    mkdir -p "$folder" "$of"
+    ln -s "$of" "$folder/subsystem"
     if [ "$3" != - ]; then mkdir -p "$bus/$2/drivers/$3" && ln -s "$bus/$2/drivers/$3" "$folder/driver"; fi
     shift 3
     printf '%s\n' "$@" > "$folder/uevent"

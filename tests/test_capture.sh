@@ -21,7 +21,8 @@ A: subsystem=net
 E: INTERFACE=eth0
 E: IFINDEX=2
 $of_pci_card"
-same "a network card, by its class" "$of_card" "$("$capture" --sysfs "$sys" "$sys/class/net/eth0")"
+same "a network card, by its class" "$of_card
+K: bus=pci" "$("$capture" --sysfs "$sys" "$sys/class/net/eth0")"
 same "a network card with another action" "C: change" "$("$capture" --action change --sysfs "$sys" "$sys/class/net/eth0" | head -n 1)"
 
 of_disk="P: $disk
@@ -67,7 +68,8 @@ E: MINOR=1
 E: DEVNAME=/dev/sda1
 E: DEVTYPE=partition
 E: PARTN=1
-$of_sda"
+$of_sda
+K: bus=scsi pci"
 same "a partition with its parents" "$of_sda1" \
     "$("$capture" --sysfs "$sys" "$sys$disk/block/sda/sda1" 2> /dev/null)"
 same "a name that a block can't contain is reported" \
@@ -108,7 +110,8 @@ E: MAJOR=189
 E: MINOR=1
 E: DEVNAME=/dev/bus/usb/001/002
 E: DEVTYPE=usb_device
-E: DRIVER=usb" "$("$capture" --sysfs "$sys" "$sys$keyboard/1-1:1.0/input/input7/event3")"
+E: DRIVER=usb
+K: bus=usb" "$("$capture" --sysfs "$sys" "$sys$keyboard/1-1:1.0/input/input7/event3")"
 
 # Devices by their nodes. /dev/null exists on every machine, with the numbers 1:3; for others there are links here.
 device /devices/virtual/mem/null mem - MAJOR=1 MINOR=3 DEVNAME=null DEVMODE=0666
@@ -145,7 +148,8 @@ same "one node whose device does not exist, and one whose device exists" "1 $of_
 all=$("$capture" --sysfs "$sys" --all 2> /dev/null)
 same "all devices" "$(find "$sys/devices" -name uevent | sed "s|^$sys|P: |; s|^P: /|P: /|; s|/uevent$||" | LC_ALL=C sort)" \
     "$(awk 'BEGIN { RS = ""; FS = "\n" } { print $2 }' <<< "$all" | LC_ALL=C sort)"
-same "one of all devices has the block of that device" "$of_card" "$(awk -v RS='' -v path="P: $card/net/eth0" 'index($0, path "\n")' <<< "$all")"
+same "one of all devices has the block of that device" "$of_card
+K: bus=pci" "$(awk -v RS='' -v path="P: $card/net/eth0" 'index($0, path "\n")' <<< "$all")"
 
 : > "$work/none.rules"
 answers=$("$program" events -r "$work/none" "$work/none.rules" <<< "$all" 2>&1; echo "status $?")
@@ -247,7 +251,8 @@ ln -s "$sys$keyboard" "$bus/other/devices/1-1"
 ln -s "$sys$card" "$sys/class/one/twice" && ln -s "$sys$keyboard" "$sys/class/two/twice"
 ln -s "$sys$keyboard" "$bus/usb/devices/sda"
 captured() { (cd "$work" && "$capture" --sysfs "$sys" "$@" 2>&1); }
-same "an interface, by its name" "$of_card" "$(captured eth0)"
+same "an interface, by its name" "$of_card
+K: bus=pci" "$(captured eth0)"
 same "a disk, by its name" "P: $disk/block/sda" "$(captured sda | grep -m 1 ^P:)"
 same "a PCI function, by its name" "P: $card" "$(captured "${card##*/}" | grep -m 1 ^P:)"
 same "a device that two buses have, by its name" "P: $keyboard" "$(captured 1-1 | grep -m 1 ^P:)"
@@ -270,7 +275,8 @@ done
 mkdir "$sys$card/net/eth0/statistics" "$sys$card/msi_irqs"
 echo 7 > "$sys$card/net/eth0/statistics/rx_bytes"
 echo msi > "$sys$card/msi_irqs/33"
-same "a card with many queues" "$of_card" "$("$capture" --sysfs "$sys" eth0 2> /dev/null)"
+same "a card with many queues" "$of_card
+K: bus=pci" "$("$capture" --sysfs "$sys" eth0 2> /dev/null)"
 same "with many queues it says so" "devdry-capture: $card/net/eth0: its block has no queues/*, statistics/* and msi_irqs/*, as it would have over 65,536 bytes" \
     "$("$capture" --sysfs "$sys" eth0 2>&1 > /dev/null)"
 same "with many queues the status stays" 0 "$("$capture" --sysfs "$sys" eth0 > /dev/null 2>&1; echo $?)"

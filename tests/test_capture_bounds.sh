@@ -79,7 +79,7 @@ for text in "a${nl}a: from_link=canary" "--help" "--version" "a${nl}P: /etc${nl}
         rm -f "$sys/devices/whole/$link"
         if [ -n "$text" ]; then ln -s -- "$text" "$sys/devices/whole/$link"; fi
     done
-    same "links that say ${text@Q}" "0 1" "$("$capture" --sysfs "$sys" --all 2>&1 |
+    same "links that say ${text@Q}" "0 1" "$("$capture" --sysfs "$sys" "$sys/devices/whole" 2>&1 |
         awk '/canary|Usage|usage|opyright|etc/ { odd++ } /^A: whole=/ { whole++ } END { print odd + 0, whole }')"
 done
 

@@ -77,7 +77,7 @@ U: input
 A: subsystem=input" "$(
     tree $'\e]0;x\a'
     printf 'a\tb\n' > "$sys/devices/it/here/tab"
-    rm "$sys/devices/it/subsystem" && ln -s "$bus/input" "$sys/devices/it/subsystem"
+    rm "$sys/devices/it/subsystem" && ln -s "$sys/class/input" "$sys/devices/it/subsystem"
     "$capture" --sysfs "$sys" "$sys/devices/it/here" 2> /dev/null | sed '/^E: [MD]/d; /^C/d; /^A: host/d'
 )"
 device /devices/count leds of$'\e' NAME=a$'\e'b NAME=a$'\e'b OTHER=$'\r' KEPT=1

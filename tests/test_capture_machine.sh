@@ -6,24 +6,25 @@ set -uo pipefail
 # shellcheck source=sys_tree.sh
 . "$(dirname "$0")/sys_tree.sh"
 
-# A copy of the script in which the tree takes the place of /sys, and a file that of the kernel's command line; `uname` and
-# `systemd-detect-virt` say what the files below `machine` hold, and fail without one.
+# A copy of the script in which the tree takes the place of /sys, and a file that of the kernel's command line; `uname`, `ip`,
+# `ethtool` and `systemd-detect-virt` say what the files below `machine` hold, and fail without one.
 mkdir -p "$work/own" "$work/machine"
 sed "s|sysfs=/sys udevadm|sysfs=$sys udevadm|; s|=/proc/cmdline|=$work/machine/cmdline|" "$capture" > "$work/own/capture"
 cp "$capture"*.awk "$work/own"
-printf '#!/bin/sh\ncat "%s/machine/uname"\n' "$work" > "$work/own/uname"
+# shellcheck disable=SC2016
+for tool in uname ip ethtool; do printf '#!/bin/sh\ncat "%s/machine/%s$1"\n' "$work" $tool > "$work/own/$tool"; done
 printf '#!/bin/sh\nexit 1\n' > "$work/own/udevadm"
 # shellcheck disable=SC2016
 printf '#!/bin/sh\ncat "%s/machine/virt$1"\n' "$work" > "$work/own/systemd-detect-virt"
 chmod +x "$work/own"/*
 own() { PATH=$work/own:$PATH sh "$work/own/capture" "$@" 2> /dev/null; }
 card_of=$sys/class/net/eth0
-constants() { own --kernel "$card_of" | grep '^K: '; }
+constants() { own --kernel "$card_of" | grep '^K: ' | grep -v '^K: bus='; }
 
 # The names of systemd for what uname calls a machine; one that it does not know has none.
 echo none > "$work/machine/virt"
 while read -r machine name; do
-    echo "$machine" > "$work/machine/uname"
+    echo "$machine" > "$work/machine/uname-m"
     same "the architecture of $machine" "${name:+K: arch=$name
 }K: virt=none" "$(constants)"
 done << 'END'
@@ -44,7 +45,7 @@ sparc64 sparc64
 sh4a sh
 what
 END
-rm "$work/machine/uname"
+rm "$work/machine/uname-m"
 same "without a name of the machine" "K: virt=none" "$(constants)"
 echo kvm > "$work/machine/virt" && echo sev > "$work/machine/virt--cvm"
 same "virtualization" "K: virt=kvm
@@ -55,27 +56,40 @@ echo 'not a name' > "$work/machine/virt"
 same "a systemd-detect-virt that says something else" "" "$(constants)"
 rm "$work/machine/virt"
 
-# The command line: only the words for which rules ask, as they are.
+# The kernel's version, and its whole command line (test_capture_secrets.sh has words that are secrets).
+echo 6.18.44-fc-v973 > "$work/machine/uname-r"
+same "the version of the kernel" "K: kernel=6.18.44-fc-v973" "$(constants)"
+rm "$work/machine/uname-r"
 said() {
     printf '%s\n' "$1" > "$work/machine/cmdline"
     constants
 }
-same "words that no rule asks for" "K: cmdline=" "$(said 'quiet rd.luks.key=hunter2 password=secret root=/dev/sda1')"
-same "words for which rules ask" "K: cmdline=nomodeset multipath=off net.ifnames=0" \
-    "$(said 'BOOT_IMAGE=/vmlinuz nomodeset quiet multipath=off net.ifnames=0 key=x')"
-same "- and _ in names are the same" "K: cmdline=net.naming-scheme=v250" "$(said 'net.naming-scheme=v250')"
-same "names that only begin alike, or go on before" "K: cmdline=" "$(said 'nomodesetx=1 xnompath nodmraid.key=1')"
-same "patterns are words" "K: cmdline=multipath=*" "$(said '* multipath=*')"
+same "the command line" "K: cmdline=BOOT_IMAGE=/vmlinuz nomodeset quiet * net.ifnames=0 -- x" "$(said 'BOOT_IMAGE=/vmlinuz nomodeset quiet * net.ifnames=0 -- x')"
 same "the words answer IMPORT{cmdline}" "env nomodeset=1" \
     "$(echo 'IMPORT{cmdline}="nomodeset"' > "$work/r.rules"; said 'nomodeset x' | { printf 'C: add\nP: /d\n'; cat; } \
         | "$program" events --udev -r "$work/none" "$work/r.rules" | grep nomodeset)"
 rm "$work/machine/cmdline"
 
+# What ip and ethtool say of an interface (as they did of a veth pair, one in a bridge, and cards of virtio and of a PC).
+while IFS='|' read -r link permanent told; do
+    rm -f "$work/machine/ip-details" "$work/machine/ethtool-P"
+    [ "$link" = - ] || printf '%s\n' "$link" > "$work/machine/ip-details"
+    [ "$permanent" = - ] || printf '%s\n' "$permanent" > "$work/machine/ethtool-P"
+    same "an interface: $link, $permanent" "$(printf '%b' "$told")" "$(own --kernel "$card_of" | grep '^K: [kp]e*[ir]')"
+done << 'END'
+[{"ifname":"eth0","ifalias":"a \"info_kind\":\"no\"","linkinfo":{"info_kind":"veth"}}]|Permanent address: not set|K: kind=veth\nK: permaddr=
+[{"ifname":"eth0","linkinfo":{"info_kind":"veth","info_slave_kind":"bridge"}}]|-|K: kind=veth
+[{"ifname":"eth0","linkinfo":{"info_slave_kind":"bridge"},"parentbus":"pci"}]|Permanent address: 02:fc:00:00:0A:01|K: kind=\nK: permaddr=02:fc:00:00:0A:01
+-|Permanent address: 00:00|K: permaddr=00:00
+-|Permanent address: x y|
+-|-|
+END
+
 # Each device has the constants, behind everything else; --sysfs and --from are about other machines, and --walk prints keys.
-echo x86_64 > "$work/machine/uname"
+echo x86_64 > "$work/machine/uname-m"
 same "the constants are at the end" "K: arch=x86-64" "$(own "$card_of" | sed '/^$/d' | tail -n 1)"
 same "each device has them" "$(own --all | grep -c '^C: ')" "$(own --all | grep -c '^K: arch=x86-64$')"
-same "--sysfs: no constants" "" "$(own --sysfs "$sys" "$card_of" | grep '^K: ')"
+same "--sysfs: no constants" "K: bus=pci" "$(own --sysfs "$sys" "$card_of" | grep '^K: ')"
 same "--from: no constants" "" "$(own --from "$work/db" | grep '^K: ')"
 same "--walk: no constants" "" "$(own --walk "$card_of" | grep 'K: \|arch')"
 

@@ -165,7 +165,8 @@ done
 same "the disk's session as a block has it" "P: $session
 A: iscsi_session/session1/targetname=open-000
 A: connection1:0/iscsi_connection/connection1:0/persistent_address=open-001
-A: connection1:0/iscsi_connection/connection1:0/persistent_port=open-002" \
+A: connection1:0/iscsi_connection/connection1:0/persistent_port=open-002
+K: bus=scsi" \
     "$("$capture" --sysfs "$sys" "$sys$lun/block/sdc" 2> /dev/null | sed -n "/^P: ${session//\//\\/}\$/,\$p")"
 same "the session itself" "A: initiatorname=own-001" \
     "$("$capture" --sysfs "$sys" "$sys$session/iscsi_session/session1" 2> /dev/null | grep own-)"
@@ -243,13 +244,25 @@ same "no secret" "" "$(device /devices/open leds - && said --sysfs "$sys" "$sys/
 same "with secrets left out the status stays" 0 "$("$capture" --sysfs "$sys" "$sys/devices/keyboard" > /dev/null 2>&1; echo $?)"
 same "keys have no properties, so none is left out of them" "" "$(said --walk --sysfs "$sys" "$sys/devices/keyboard")"
 
-# Words of the kernel's command line, with words for which rules ask that would be secrets.
+# Words of the kernel's command line that are secrets by their names, or an address with a password: without them it is a part.
 mkdir -p "$work/own" && cp "$capture"*.awk "$work/own"
-sed "s|sysfs=/sys udevadm|sysfs=$sys udevadm|; s|=/proc/cmdline|=$work/cmdline|; s|^asked_words='|&rd.luks.key my.password wpa-psk pin |" \
-    "$capture" > "$work/own/capture"
+sed "s|sysfs=/sys udevadm|sysfs=$sys udevadm|; s|=/proc/cmdline|=$work/cmdline|" "$capture" > "$work/own/capture"
 printf '#!/bin/sh\nexit 1\n' > "$work/own/udevadm" && chmod +x "$work/own"/*
-echo 'nomodeset rd.luks.key=gone my.password=gone wpa-psk=gone pin=1 PIN=2 pin' > "$work/cmdline"
-same "words that are secrets" "K: cmdline=nomodeset" "$(PATH=$work/own:$PATH "$work/own/capture" "$sys/devices/open" 2> /dev/null | grep cmdline)"
+line() { printf '%s\n' "$1" > "$work/cmdline" && PATH=$work/own:$PATH "$work/own/capture" "$sys/devices/open" 2>&1 | grep 'cmdline\|word'; }
+while IFS='|' read -r words left number; do
+    same "the command line $words" "devdry-capture: $number of the command line that may be secret ${number:+$([ "${number% word}" = 1 ] && echo is || echo are)} left out
+K: cmdline.part=$left" "$(line "$words" | LC_ALL=C sort -r)"
+done << 'END'
+nomodeset rd.luks.key=gone my.password=gone wpa-psk=gone pin=1 PIN=2 pin|nomodeset|6 words
+quiet password="a b" splash|quiet splash|1 word
+quiet password="a b splash|quiet|1 word
+token='a "b' x=1 c' quiet||1 word
+x="a b" psk=gone y='c  d'|x="a b" y='c d'|1 word
+netroot=iscsi:user:gone@10.0.0.1::3260:: proxy=http://a:b@c quiet|quiet|2 words
+END
+for words in '' 'quiet  splash' 'crashkernel=2G-4G:320M@16M root=UUID=7-8' 'rd.luks.uuid=1 keys=2' 'x="a b" -- --flag'; do
+    same "the whole command line ${words@Q}" "K: cmdline=$words" "$(line "$words")"
+done
 
 # Without find, nothing says what is for root alone.
 mkdir "$work/few"
@@ -260,7 +273,7 @@ devdry-capture: there is no find, which says what is for root alone" "$(PATH=$wo
 # Files that can't be read, as a user for whom they are closed.
 write open 0 "$keyboard" descriptors 644
 write open 1 "$card" config 644
-constants() { "${as[@]}" "$work/tools/devdry-capture" --sysfs "$sys" "$sys$1" 2> /dev/null | grep '^K:'; }
+constants() { "${as[@]}" "$work/tools/devdry-capture" --sysfs "$sys" "$sys$1" 2> /dev/null | grep '^K: /'; }
 as=()
 if [ "$(id -u)" = 0 ]; then as=(setpriv --reuid=65534 --regid=65534 --clear-groups); fi
 if [ ${#as[@]} = 0 ] || has setpriv; then
@@ -274,4 +287,4 @@ else
     skipped "descriptors and a configuration that can't be read" "root needs setpriv"
 fi
 : > "$sys$keyboard/descriptors" && chmod 644 "$sys$keyboard/descriptors"
-same "descriptors without a byte give no line" "" "$("$capture" --sysfs "$sys" "$sys$keyboard" 2> /dev/null | grep '^K:')"
+same "descriptors without a byte give no line" "" "$("$capture" --sysfs "$sys" "$sys$keyboard" 2> /dev/null | grep '^K: /')"

@@ -152,14 +152,22 @@ function remove_secrets(path,    i, key, part, found) {
     }
 }
 
-# The words of a command line without those that are secrets.
-function safe_words(text,    i, n, words, out) {
+# Whether a value has an open quote.
+function is_open(text) { return gsub(/"/, "&", text) % 2 || gsub(/'/, "&", text) % 2 }
+
+# The constant of the kernel's command line, without the words that are secrets, by their names or as an address with a password:
+# then it is only a part. A value in quotes may have blanks.
+function command_line(text,    i, n, words, out, gone, dropped) {
     n = split(text, words, " ")
     for (i = 1; i <= n; i++) {
-        if (says_secret(substr(words[i], 1, index(words[i] "=", "=") - 1))) secrets_left_out++
-        else out = out (out == "" ? "" : " ") words[i]
+        cut(words[i] (words[i] ~ /=/ ? "" : "="))
+        if (dropped == "" && !says_secret(name) && value !~ /^["']?[a-z]+:.*@/) { out = out " " words[i]; continue }
+        if (dropped == "") gone++
+        dropped = dropped words[i]
+        if (!is_open(dropped)) dropped = ""
     }
-    return out
+    words_left_out += gone
+    return gone ? "cmdline.part=" substr(out, 2) : "cmdline=" text
 }
 
 # Begins what is said about a device, with its path; `wanted` is whether it is printed where no device is named.
@@ -217,6 +225,7 @@ function about(line,    letter, text) {
     if (letter == "E:") property(text, is_added(substr(text, 1, index(text, "=") - 1)))
     if (letter == "e:") property(text, 0)
     if (letter == "d:") drivers[path] = text
+    if (letter == "b:") buses[text]
     if (letter == "a:") add("A", substr(text, 1, index(text, "=") - 1), text, 0)
     if (letter == "k:") add("K", substr(text, 1, index(text, "=") - 1), text, 0)
     if (letter == "H:" && text ~ /^(descriptors|config)=/) {
@@ -302,7 +311,7 @@ saying { message = message (NR > 1 ? "\n" : "") $0; next }
 }
 { letter = substr($0, 1, 2); text = substr($0, 4) }
 (letter == "c:" || letter == "m:") && has_controls(text) { next }
-letter == "c:" && sub(/^cmdline=/, "", text) { text = "cmdline=" safe_words(text) }
+letter == "c:" && sub(/^cmdline=/, "", text) { text = command_line(text) }
 letter == "c:" { constants = constants "K: " text "\n"; next }
 letter == "m:" { elsewhere[++elsewheres] = text; next }
 letter == "n:" { sub(/\/\.\//, "/", text); if (!(text in odd)) { odd[text]; newlines++ } next }
@@ -464,16 +473,21 @@ function is_told(line) {
     return told[name]++
 }
 
-# The lines of a device, each with its newline. With `first` it is the event device.
+# Whether a line of the event device is of what udev can't read once the device is gone.
+function is_gone(line) { return action == "remove" && line ~ /^([AVK]:|E: DRIVER=)/ }
+
+# The lines of a device, each with its newline. With `first` it is the event device. When that is removed, udev begins with what
+# it has stored.
 function device(path, first,    of, i, line, letter) {
     if (!(path in counted)) {
         counted[path]
         controls += lines_left_out[path]
         secrets_left_out += secrets_of[path]
     }
+    add_bus(substr(lines[path, "U", "U"], 4))
     for (i = 1; i <= count[path]; i++) {
-        line = first && kernel ? kernels[keys[path, i]] : lines[keys[path, i]]
-        if (shorter && line ~ unasked) continue
+        line = first && kernel && action != "remove" ? kernels[keys[path, i]] : lines[keys[path, i]]
+        if (shorter && line ~ unasked || first && is_gone(line)) continue
         letter = substr(line, 1, 1)
         if (letter == "K" && is_told(line)) continue
         of[letter] = of[letter] (walk ? as_key(line, first ? "" : "S") : line == "" ? "" : line "\n")
@@ -483,9 +497,15 @@ function device(path, first,    of, i, line, letter) {
     return of["P"] of["U"] of["V"] of["N"] of["D"] of["A"] of["E"] of["G"] of["S"] of["K"]
 }
 
+# Adds a subsystem to those of a block that are buses, by which events knows that their devices have no link `device`.
+function add_bus(subsystem) {
+    if (subsystem in buses && !index(bus_words " ", " " subsystem " ")) bus_words = bus_words " " subsystem
+}
+
 # A device with its parents, those that have a record, as a block or as keys; `devices` says how many they are.
 function written(path,    out, parent) {
     split("", told)
+    bus_words = ""
     out = (walk ? "" : "C: " action "\n") device(path, 1)
     devices = 1
     parent = path
@@ -493,6 +513,7 @@ function written(path,    out, parent) {
         out = out (walk ? "\n" : "") device(parent, 0)
         devices++
     }
+    if (bus_words != "" && !walk) out = out "K: bus=" substr(bus_words, 2) "\n"
     return out constants (answers ? answered(path) : "")
 }
 
@@ -530,6 +551,7 @@ END {
     say_left_out(newlines, "name", " with a newline")
     say_left_out(controls, "line", " with a control byte")
     say_left_out(secrets_left_out, "line", " for root alone or secret by name")
+    say_left_out(words_left_out, "word", " of the command line that may be secret")
     close("cat 1>&2")
     exit (orders || failed ? failed : 4)
 }

@@ -1,6 +1,7 @@
 """The most expensive inputs of each kind that were found: what each takes, and what ten times as much of one thing in it
 takes. That should be ten times as much, more or less: a case that takes more than fifteen times as much fails. If the
-definition itself compares everything with everything, its square is allowed, and the case says so.
+definition itself compares everything with everything, its square is allowed, and the case says so. Each case of `events` and
+`verify` is run with `--udev`, too.
 
 usage: worst_inputs.py PROGRAM [WORD]    WORD: only the cases whose names have it
 """
@@ -25,7 +26,7 @@ class Link(str):
     """The path that a symbolic link leads to, among the files of a run."""
 
 
-DEVICE = "C: add\nP: /a\n"
+DEVICE = "C: add\nP: /a\nU: u\n"
 LONG = "a" * 60_000
 
 
@@ -68,6 +69,12 @@ def verify(rules):
     return ["verify", "r.rules"], {"r.rules": rules}, ""
 
 
+def owned(count):
+    """As many users and groups, and rules with one of each."""
+    files = {"r.rules": each('OWNER="a#", GROUP="a#"\n', count), "users": each("a#:x:#:0::/:/a\n", count), "groups": each("a#:x:#:\n", count)}
+    return ["verify", "--udev", "--users", "users", "--groups", "groups", "r.rules"], files, ""
+
+
 def many_messages(form, count):
     """40 lines of as many messages each, in a format."""
     return ["verify", f"--format={form}", "r.rules"], {"r.rules": (",".join(['TAG+="b"'] * count) + "\n") * 40}, ""
@@ -104,8 +111,8 @@ def each(template, count):
 
 
 def chain(lines, first=""):
-    """The 64 devices of a chain, each with these lines."""
-    return "C: add\n" + "".join(f"P: {'/a' * (64 - above)}\n{lines}{first if above == 0 else ''}" for above in range(64))
+    """The 64 devices of a chain, each with a subsystem and these lines."""
+    return "C: add\n" + "".join(f"P: {'/a' * (64 - above)}\nU: u\n{lines}{first if above == 0 else ''}" for above in range(64))
 
 
 def full(template):
@@ -162,13 +169,16 @@ RULES = [
     Case("lines of one long set", 20, lambda n: verify(f'KERNEL=="[{LONG[:16_360]}]"\n' * n)),
     Case("lines of unclosed brackets", 3, lambda n: verify(f'KERNEL=="{"[" * 16_370}"\n' * n)),
     Case("lines of tokens without a comma", 20, lambda n: verify(('TAG="a"' * 2_300 + "\n") * n)),
+    Case("users and groups, and rules with one of each", 800, owned),
+    Case("files of four rules that are looked at for lints", 800, lambda n: (["verify", "--lint", "-r", "."], {
+        f"etc/udev/rules.d/{number:05}.rules": each('KERNEL=="a#", NAME="n"\n', 4) for number in range(n)}, "")),
     Case("lines joined into one", 100_000, lambda n: verify("a\\\n" * n)),
     Case("bytes of a line", 1_000_000, lambda n: verify('"' * n)),
     Case("messages", 10_000, lambda n: verify("x\n" * n)),
     Case("notes", 10_000, lambda n: events('TEST=="/x"\n' * n)),
     Case("tests of 8,000 tags", 300, lambda n: events('TAGS=="x"\n' * n, full("G: #\n"))),
     Case("patterns over 4,000 properties", 30, lambda n: events('IMPORT{parent}="*x|*y|*z"\n' * n, full("E: #=\n").replace(
-        "P: /a\n", "P: /a/b\nP: /a\n"))),
+        "P: /a\n", "P: /a/b\nU: u\nP: /a\n"))),
     Case("searches along 64 devices", 1_000, lambda n: events('ATTRS{5}=="1", ATTRS{6}=="*2"\n' * n, chain(each("A: #=1\n", 100)))),
     Case("bytes of a pattern that almost fits", 800, lambda n: events(f'ATTR{{x}}=="*{"a" * n}b"\n', f"{DEVICE}A: x={LONG}\n")),
     Case("stars in a pattern", 800, lambda n: events(f'ATTR{{x}}=="{"*a" * n}*b"\n' * 10, f"{DEVICE}A: x={LONG}\n")),
@@ -193,6 +203,9 @@ TOLD = [
     Case("tags, each with what its rule did", 2_000, lambda n: told("--why=r.rules", each('TAG+="t#"\n', n)), 12),
     Case("properties, each with what its rule did", 2_000, lambda n: told("--why=r.rules", each('ENV{P#}="#"\n', n)), 12),
     Case("commands, each with what its rule did", 2_000, lambda n: told("--why=r.rules", each('RUN+="c#"\n', n)), 12),
+    *(Case(f"{what} {how}", 400, lambda n, key=key, option=option: told(option, each(f'{key}{{a#}}="#"\n', n)))
+      for what, key in (("attributes", "ATTR"), ("kernel parameters", "SYSCTL"))
+      for how, option in (("with their sources", "--sources"), ("each with what its rule did", "--why=r.rules"), ("as JSON", "--format=json"))),
 ]
 
 UDEV = [
@@ -246,9 +259,9 @@ DATABASE = [
     Case("bytes of a modalias through 16,384 stars", 20, lambda n: query("*" * 16_384 + "\n a=\n", "a" * n)),
     Case("records", 10_000, lambda n: (["update", "t.hwdb"], {"t.hwdb": each("m#*\n A=#\n\n", n)}, "")),
     Case("look-ups along 64 devices", 3, lambda n: events(
-        'IMPORT{builtin}="hwdb"\n' * n, chain(f"U: u\nE: MODALIAS={'a' * 800}\n"), **{"none/etc/udev/hwdb.d/a.hwdb": STARS})),
+        'IMPORT{builtin}="hwdb"\n' * n, chain(f"E: MODALIAS={'a' * 800}\n"), **{"none/etc/udev/hwdb.d/a.hwdb": STARS})),
     Case("look-ups with a long prefix", 1, lambda n: events(
-        'IMPORT{builtin}="hwdb --lookup-prefix=%E{p}"\n' * n, chain("U: u\nE: MODALIAS=x\n", f"E: p={'a' * 16_000}\n"),
+        'IMPORT{builtin}="hwdb --lookup-prefix=%E{p}"\n' * n, chain("E: MODALIAS=x\n", f"E: p={'a' * 16_000}\n"),
         **{"none/etc/udev/hwdb.d/a.hwdb": STARS})),
     Case("files of two folders", 1_000, lambda n: (["verify", "-r", "."], {
         **{f"etc/udev/rules.d/b{number:05}.rules": "" for number in range(n)},
@@ -298,8 +311,19 @@ def is_right(program, case):
     return right
 
 
+def with_udev(case):
+    """The same with `--udev`, if its command has that and its words don't."""
+    def made(count):
+        words, files, block = case.make(count)
+        return [words[0], "--udev", *words[1:]], files, block
+    words = case.make(1)[0]
+    has = words[0] in ("events", "verify") and not {"--udev", "--links"} & set(words)
+    return [case, case._replace(name=f"{case.name}, as udev", make=made)] if has else [case]
+
+
 def main(program, word):
-    cases = [case for case in [*RENDERING, *RULES, *FORMATS, *TOLD, *UDEV, *LINKS, *BLOCKS, *DATABASE] if word in case.name]
+    groups = [*RENDERING, *RULES, *FORMATS, *TOLD, *UDEV, *LINKS, *BLOCKS, *DATABASE]
+    cases = [both for case in groups for both in with_udev(case) if word in both.name]
     wrong = [case.name for case in cases if not is_right(program, case)]
     print(f"{len(cases) - len(wrong)} of {len(cases)} expensive inputs take no more than about ten times as long for ten times as much")
     return bool(wrong)

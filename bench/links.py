@@ -1,6 +1,7 @@
 #!/usr/bin/env python3
 """Asks the real `udevadm test-builtin` of systemd 257 for the name of an interface by `.link` files, and prints where
-bench/plain_links.py differs from it, or from what tests/tables/kinds/link_cases.py says.
+bench/plain_links.py differs from it, or from what tests/tables/kinds/link_cases.py says. On a machine as tests/tables/link_machine.py
+has it, udevadm is asked about the cases of that, too.
 
 The interface is one of a veth pair in a network namespace of its own. Its sysfs is mounted in ROOT, with the file name_assign_type
 of the case bound over its own, and its properties are in /run/udev/data.
@@ -18,6 +19,7 @@ from pathlib import Path
 import plain_links
 
 sys.path.insert(0, str(Path(__file__).resolve().parent.parent / "tests"))
+from tables import link_machine  # noqa: E402
 from tables.kinds.link_cases import CASES  # noqa: E402
 
 DEVICE = "veth1"
@@ -98,7 +100,13 @@ def main():
             if answer != wanted:
                 different += 1
                 print(f"{name}: {who}: {answer}, not {wanted}")
-    print(f"{len(CASES)} cases, {different} different")
+    machine = [*link_machine.cases()] if os.uname().release == link_machine.RELEASE else []
+    for name, files, given, real, _ in machine:
+        answer = ask(root, {f"{FOLDERS[0]}/{path}": text.encode() for path, text in files.items()}, (), "3", "add", given["cmdline"])
+        if answer != real:
+            different += 1
+            print(f"{name}: udevadm: {answer}, not {real}")
+    print(f"{len(CASES) + len(machine)} cases, {different} different")
     return 1 if different else 0
 
 

@@ -125,10 +125,12 @@ def link_subsystem(sys, folder, subsystem):
             link.symlink_to(os.path.relpath(leads, link.parent))
 
 
-def make_links(sys, folder, device):
-    """Links a device to its subsystem and to its driver."""
+def make_links(sys, folder, device, above):
+    """Links a device to its subsystem and to its driver, and one of a class, but no partition, to the device above."""
     if "U" in device:
         link_subsystem(sys, folder, device["U"][0])
+        if above and device["U"][0] not in BUSES and "DEVTYPE=partition" not in device.get("E", []):
+            (folder / "device").symlink_to(os.path.relpath(f'{sys}{above["P"][0]}', folder))
     if "V" in device:
         target = sys / "bus" / device.get("U", ["usb"])[0] / "drivers" / device["V"][0]
         target.mkdir(parents=True, exist_ok=True)
@@ -153,14 +155,14 @@ def make_elsewhere(sys, name, value):
     (folder / attribute).write_bytes(os.fsencode(value) + b"\n")
 
 
-def make_device(root, device, is_event):
+def make_device(root, device, above, is_event):
     """Makes the folder of a device below sys, and for a parent with tags its entry in udev's database."""
     folder = Path(f'{root}/sys{device["P"][0]}')
     folder.mkdir(parents=True, exist_ok=True)
     if "D" in device:
         (folder / "dev").write_text(device["D"][0] + "\n")
     (folder / "uevent").write_bytes(os.fsencode(uevent_of(device, is_event)))
-    make_links(root / "sys", folder, device)
+    make_links(root / "sys", folder, device, above)
     for text in device.get("A", []):
         name, value = text.split("=", 1)
         if name.startswith("["):
@@ -277,8 +279,8 @@ def make_sysfs(root, block):
         (root / below).mkdir(parents=True)
     (root / "sys/class").mkdir()
     (root / "sys/bus").mkdir()
-    for device in reversed(devices):
-        make_device(root, device, device is devices[0])
+    for device, above in reversed([*zip(devices, [*devices[1:], None])]):
+        make_device(root, device, above, device is devices[0])
     for path, value in re.findall("^K: (/.*?)=(.*)$", block, re.M):
         make_file(root / "sys", path, value)
     given = re.search("^K: cmdline=(.*)$", block, re.M)

@@ -36,6 +36,7 @@ def block(given):
         *(f"E: {text}" for text in given.get("properties", ())),
         *(f"A: {name}={value}" for name, value in attributes.items()),
         *([f"K: cmdline={cmdline}"] if cmdline else []),
+        *(f"K: {text}" for text in given.get("machine", ())),
     ))
 
 

@@ -82,7 +82,7 @@ for kind in "${kinds[@]}"; do
 done
 path=/devices/all
 for kind in "${kinds[@]}" "${kinds[@]}"; do of_kind "$kind" "$path" && path+=/c; done
-number=$(find "$sys/devices" -name uevent | wc -l)
+number=$(find "$sys/devices" -name subsystem | wc -l)
 same "chains of all kinds" "0, $number of $number, " "$("$capture" --sysfs "$sys" --all 2> "$work/said" | taken)"
 same "chains of all kinds give no other message than of secrets" "" "$(grep -v 'secret by name are left out' "$work/said")"
 same "chains of all kinds, with --kernel" "0, $number of $number, " "$("$capture" --kernel --sysfs "$sys" --all 2> /dev/null | taken)"

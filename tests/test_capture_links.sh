@@ -38,8 +38,10 @@ for shell in dash 'bash --posix' 'busybox sh'; do
         same "the same by $shell" "$("$capture" --sysfs "$sys" "$sys$sda" 2> /dev/null)" "$($shell "$capture" --sysfs "$sys" "$sys$sda" 2> /dev/null)"
     fi
 done
+# shellcheck disable=SC2016
 echo 'ATTR{bdi/read_ahead_kb}=="128", ATTRS{bdi/max_ratio}=="100", TEST=="bdi/nul", ENV{A}="$attr{bdi/read_ahead_kb}"' > "$work/r.rules"
-same "rules find it" "env A=128" "$("$capture" --kernel --sysfs "$sys" "$sys$sda" 2> /dev/null | "$program" events --udev -r "$work/none" "$work/r.rules" | grep '^env A=\|note')"
+same "rules find it" "env A=128" "$("$capture" --kernel --sysfs "$sys" "$sys$sda" 2> /dev/null |
+    "$program" events --udev -r "$work/none" "$work/r.rules" | grep '^env A=\|note')"
 
 # Which subsystems of a block are buses, by where the link leads: each once.
 buses() { "$capture" --sysfs "$sys" "$@" 2> /dev/null | grep '^K: bus'; }

@@ -64,7 +64,8 @@ said() {
     printf '%s\n' "$1" > "$work/machine/cmdline"
     constants
 }
-same "the command line" "K: cmdline=BOOT_IMAGE=/vmlinuz nomodeset quiet * net.ifnames=0 -- x" "$(said 'BOOT_IMAGE=/vmlinuz nomodeset quiet * net.ifnames=0 -- x')"
+words='BOOT_IMAGE=/vmlinuz nomodeset quiet * net.ifnames=0 -- x'
+same "the command line" "K: cmdline=$words" "$(said "$words")"
 same "the words answer IMPORT{cmdline}" "env nomodeset=1" \
     "$(echo 'IMPORT{cmdline}="nomodeset"' > "$work/r.rules"; said 'nomodeset x' | { printf 'C: add\nP: /d\n'; cat; } \
         | "$program" events --udev -r "$work/none" "$work/r.rules" | grep nomodeset)"

@@ -250,15 +250,15 @@ sed "s|sysfs=/sys udevadm|sysfs=$sys udevadm|; s|=/proc/cmdline|=$work/cmdline|"
 printf '#!/bin/sh\nexit 1\n' > "$work/own/udevadm" && chmod +x "$work/own"/*
 line() { printf '%s\n' "$1" > "$work/cmdline" && PATH=$work/own:$PATH "$work/own/capture" "$sys/devices/open" 2>&1 | grep 'cmdline\|word'; }
 while IFS='|' read -r words left number; do
-    same "the command line $words" "devdry-capture: $number of the command line that may be secret ${number:+$([ "${number% word}" = 1 ] && echo is || echo are)} left out
-K: cmdline.part=$left" "$(line "$words" | LC_ALL=C sort -r)"
+    same "the command line $words" "devdry-capture: $number left out
+K: cmdline.part=$left" "$(line "$words" | LC_ALL=C sort -r | sed 's/ of the command line that may be secret / /')"
 done << 'END'
-nomodeset rd.luks.key=gone my.password=gone wpa-psk=gone pin=1 PIN=2 pin|nomodeset|6 words
-quiet password="a b" splash|quiet splash|1 word
-quiet password="a b splash|quiet|1 word
-token='a "b' x=1 c' quiet||1 word
-x="a b" psk=gone y='c  d'|x="a b" y='c d'|1 word
-netroot=iscsi:user:gone@10.0.0.1::3260:: proxy=http://a:b@c quiet|quiet|2 words
+nomodeset rd.luks.key=gone my.password=gone wpa-psk=gone pin=1 PIN=2 pin|nomodeset|6 words are
+quiet password="a b" splash|quiet splash|1 word is
+quiet password="a b splash|quiet|1 word is
+token='a "b' x=1 c' quiet||1 word is
+x="a b" psk=gone y='c  d'|x="a b" y='c d'|1 word is
+netroot=iscsi:user:gone@10.0.0.1::3260:: proxy=http://a:b@c quiet|quiet|2 words are
 END
 for words in '' 'quiet  splash' 'crashkernel=2G-4G:320M@16M root=UUID=7-8' 'rd.luks.uuid=1 keys=2' 'x="a b" -- --flag'; do
     same "the whole command line ${words@Q}" "K: cmdline=$words" "$(line "$words")"

@@ -67,7 +67,7 @@ said() {
 words='BOOT_IMAGE=/vmlinuz nomodeset quiet * net.ifnames=0 -- x'
 same "the command line" "K: cmdline=$words" "$(said "$words")"
 same "the words answer IMPORT{cmdline}" "env nomodeset=1" \
-    "$(echo 'IMPORT{cmdline}="nomodeset"' > "$work/r.rules"; said 'nomodeset x' | { printf 'C: add\nP: /d\n'; cat; } \
+    "$(echo 'IMPORT{cmdline}="nomodeset"' > "$work/r.rules"; said 'nomodeset x' | { printf 'C: add\nP: /d\nU: m\n'; cat; } \
         | "$program" events --udev -r "$work/none" "$work/r.rules" | grep nomodeset)"
 rm "$work/machine/cmdline"
 

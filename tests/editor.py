@@ -327,7 +327,7 @@ def nonsense():
     for method, params in (("nonsense", {}), ("$/cancelRequest", {"id": 1}), ("textDocument/didSave", {"textDocument": {"uri": RULES}}),
                            ("textDocument/didChange", {"textDocument": {"uri": HWDB}, "contentChanges": [{"text": "x"}]}),
                            ("textDocument/didChange", {"textDocument": {"uri": HWDB}}), ("textDocument/didChange", {"contentChanges": [{"text": "x"}]}),
-                           ("textDocument/didOpen", {"textDocument": {"uri": RULES}}),
+                           ("textDocument/didOpen", {"textDocument": {"uri": HWDB}}),
                            ("textDocument/didClose", {}), ("initialized", None)):
         client.notify(method, params)
     client.send({"jsonrpc": "2.0", "id": 9, "result": None})

@@ -28,13 +28,14 @@ use Rattle.lsp_server.specs.declared.server.Phase.TheVariants.{Down, Fresh, Runn
 abbrev pub Holds : Server → Type 0
 Holds server = may_be_held server.documents ≡ true
 
-opened_held : (server : Server) (asked : Option OpenedValue) → Holds server → Holds (opened server asked).server
-opened_held server None h = h
-opened_held server (Some o) h = still_held server.documents o.uri (InStep o.version o.text) h
-
 lost_held : (server : Server) (uri : Text) (found : Option Document) → Holds server → Holds (lost server uri found).server
 lost_held server uri None h = h
 lost_held server uri (Some document) h = still_held server.documents uri OutOfStep h
+
+opened_held : (server : Server) (asked : Option OpenedValue) (uri : Option Text) → Holds server → Holds (opened server asked uri).server
+opened_held server (Some o) uri h = still_held server.documents o.uri (InStep o.version o.text) h
+opened_held server None None h = h
+opened_held server None (Some uri) h = lost_held server uri (value_of server.documents uri) h
 
 by_text : (server : Server) (uri : Text) (version : Option ℕ) (text : Option Text) → Holds server → Holds (changed_to server uri version text).server
 by_text server uri version None h = h
@@ -66,7 +67,8 @@ told_held server method params h =
     let change = changed server (uri_of params) (version_of params) (changes_of params) in
     let last = cond (bytes_eq method (codes "textDocument/didClose")) close (is_silent server) in
     let later = cond (bytes_eq method (codes "textDocument/didChange")) change last in
-    either (bytes_eq method (codes "textDocument/didOpen")) (opened server (opened_of params)) later (opened_held server (opened_of params) h)
+    either (bytes_eq method (codes "textDocument/didOpen")) (opened server (opened_of params) (uri_of params)) later
+    (opened_held server (opened_of params) (uri_of params) h)
     (either (bytes_eq method (codes "textDocument/didChange")) change last (changed_held server (uri_of params) (version_of params) (changes_of params) h)
     (either (bytes_eq method (codes "textDocument/didClose")) close (is_silent server) (closed_held server (uri_of params) h) h))
 

@@ -25,10 +25,10 @@ abbrev pub Stays : Server → Text → Step → Type 0
 Stays server other step = value_of step.server.documents other ≡ value_of server.documents other
 
 -- another one is opened
-open_stays : (server : Server) (other : Text) (asked : Option OpenedValue) (o : OpenedValue) → asked ≡ Some o → same_text other o.uri ≡ false
-    → Stays server other (opened server asked)
-open_stays server other asked o is apart =
-    ap (λ found. value_of (opened server found).server.documents other) is
+open_stays : (server : Server) (other : Text) (asked : Option OpenedValue) (uri : Option Text) (o : OpenedValue) → asked ≡ Some o
+    → same_text other o.uri ≡ false → Stays server other (opened server asked uri)
+open_stays server other asked uri o is apart =
+    ap (λ found. value_of (opened server found uri).server.documents other) is
     ∙ others_found server.documents o.uri (InStep o.version o.text) other apart
 
 -- another one is lost, if it is open
@@ -77,7 +77,7 @@ told_stays server other uri method params apart =
 -- a document was opened
 pub opening_stays : (phase : Phase) (server : Server) (params : Json) (o : OpenedValue) (other : Text) → opened_of params ≡ Some o
     → same_text other o.uri ≡ false → Stays server other (notified phase server (codes "textDocument/didOpen") (Some params))
-opening_stays Running server params o other is apart = open_stays server other (opened_of params) o is apart
+opening_stays Running server params o other is apart = open_stays server other (opened_of params) (uri_of params) o is apart
 opening_stays Fresh server params o other is apart = refl
 opening_stays Down server params o other is apart = refl
 
@@ -85,7 +85,7 @@ opening_stays Down server params o other is apart = refl
 pub named_stays : (phase : Phase) (server : Server) (method : Text) (params : Json) (uri other : Text) → bytes_eq method (codes "textDocument/didOpen") ≡ false
     → uri_of params ≡ Some uri → same_text other uri ≡ false → Stays server other (notified phase server method (Some params))
 named_stays Running server method params uri other differs is apart =
-    ap (λ b. value_of (cond b (opened server (opened_of params)) (by_uri (uri_of params))).server.documents other) differs
+    ap (λ b. value_of (cond b (opened server (opened_of params) (uri_of params)) (by_uri (uri_of params))).server.documents other) differs
     ∙ ap (λ found. value_of (by_uri found).server.documents other) is
     ∙ told_stays server other uri method params apart
   where

@@ -44,7 +44,7 @@ requested Down server id method params = sends server (error_for (Some id) Inval
 -- what comes of a notification with parameters
 abbrev pub told_of : Server → (method : Text) → Json → Step
 told_of server method params =
-    if bytes_eq method (codes "textDocument/didOpen") then opened server (opened_of params)
+    if bytes_eq method (codes "textDocument/didOpen") then opened server (opened_of params) (uri_of params)
     else if bytes_eq method (codes "textDocument/didChange") then changed server (uri_of params) (version_of params) (changes_of params)
     else if bytes_eq method (codes "textDocument/didClose") then closed server (uri_of params)
     else is_silent server

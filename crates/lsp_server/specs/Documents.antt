@@ -57,18 +57,19 @@ taken server uri version text =
       sent = Some (if may_be_held (with_value server.documents uri document) then published server uri version text else not_held uri because.TooMuch);
     }
 
--- what comes of `textDocument/didOpen`
-abbrev pub opened : Server → Option OpenedValue → Step
-opened server None = is_silent server
-opened server (Some o) = taken server o.uri o.version o.text
-
--- what comes of changes that are not understood to a document that is open, or not: it is out of step
+-- what comes of what is not understood about a document that is open, or not: it is out of step
 abbrev pub lost : Server → (uri : Text) → Option Document → Step
 lost server uri None = is_silent server
 lost server uri (Some document) = record {
   server = record server { documents = with_document server.documents uri OutOfStep };
   sent = Some (not_held uri because.OutOfStep);
 }
+
+-- what comes of `textDocument/didOpen`, by what is opened, if that is understood, and by its URI
+abbrev pub opened : Server → Option OpenedValue → Option Text → Step
+opened server (Some o) uri = taken server o.uri o.version o.text
+opened server None None = is_silent server
+opened server None (Some uri) = lost server uri (value_of server.documents uri)
 
 -- what comes of the text of a document after changes, if it is known
 abbrev pub changed_to : Server → (uri : Text) → Option ℕ → Option Text → Step

@@ -35,25 +35,7 @@ impl Server {
         }
     }
 
-    /// A document is opened.
-    pub(crate) fn open(
-        &mut self,
-        alloc: Global,
-        params: &Value<'_>,
-    ) -> Result<Option<Vec<u8>>, AllocError>
-        ensures { IfOk result (λ content. GivesSome (opened self.old (opened_of (value_view params.now))) self.new (option_map (λ c. c.items) content)) }
-    {
-        match opened_of(params) {
-            None => Ok(None),
-            Some(opened) => {
-                let text = Bytes::copy_of(alloc, opened.text.as_bytes())?;
-                let uri = opened.uri.as_bytes();
-                Ok(Some(self.take(alloc, uri, opened.version, text)?))
-            }
-        }
-    }
-
-    /// Changes of a document are not understood: if it is open, it is out of step, and its text is let go.
+    /// What is said about a document is not understood: if it is open, it is out of step, and its text is let go.
     fn lose(&mut self, alloc: Global, uri: &[u8]) -> Result<Option<Vec<u8>>, AllocError>
         ensures { IfOk result (λ content. GivesSome (lost self.old uri.now (value_of self.old.documents uri.now)) self.new
             (option_map (λ c. c.items) content)) }
@@ -64,6 +46,28 @@ impl Server {
         let content = not_held(alloc, uri, Reason::OutOfStep)?;
         self.documents.put(alloc, uri, Document::OutOfStep)?;
         Ok(Some(content))
+    }
+
+    /// A document is opened.
+    pub(crate) fn open(
+        &mut self,
+        alloc: Global,
+        params: &Value<'_>,
+    ) -> Result<Option<Vec<u8>>, AllocError>
+        ensures { IfOk result (λ content. GivesSome (opened self.old (opened_of (value_view params.now)) (uri_of (value_view params.now))) self.new
+            (option_map (λ c. c.items) content)) }
+    {
+        match opened_of(params) {
+            None => match uri_of(params) {
+                None => Ok(None),
+                Some(uri) => self.lose(alloc, uri.as_bytes()),
+            },
+            Some(opened) => {
+                let text = Bytes::copy_of(alloc, opened.text.as_bytes())?;
+                let uri = opened.uri.as_bytes();
+                Ok(Some(self.take(alloc, uri, opened.version, text)?))
+            }
+        }
     }
 
     /// A document is changed, if it is open and its text is known then.

@@ -103,12 +103,17 @@ pub fn what_is_opened_is_held_until_it_is_closed()
         ≡ record { server = record server { documents = without_name server.documents uri }; sent = Some (unpublished uri) } }
 {}
 
-/// After changes of a document that are not understood nothing is answered from the text that it had: one diagnostic says that it is
-/// out of step, and each request is answered as if it were not open. Changes of parts of it change nothing then, and are not answered.
+/// After a change of an open document that is not understood, or after it is opened again in a way that is not, nothing is answered
+/// from the text that it had: one diagnostic says that it is out of step, and each request is answered as if it were not open.
+/// Changes of parts of it change nothing then, and are not answered.
 pub fn what_is_out_of_step_is_not_used()
     ensures told { (server : Server) (params : Json) (uri : Text) (document : Document) → server.phase ≡ Running → uri_of params ≡ Some uri
         → changes_of params ≡ None → value_of server.documents uri ≡ Some document
         → step_of server (notification (codes "textDocument/didChange") (Some params))
+        ≡ record { server = out_of_step server uri; sent = Some (not_held uri because.OutOfStep) } }
+    ensures opened { (server : Server) (params : Json) (uri : Text) (document : Document) → server.phase ≡ Running → uri_of params ≡ Some uri
+        → opened_of params ≡ None → value_of server.documents uri ≡ Some document
+        → step_of server (notification (codes "textDocument/didOpen") (Some params))
         ≡ record { server = out_of_step server uri; sent = Some (not_held uri because.OutOfStep) } }
     ensures asked { (server : Server) (uri : Text) (id : Json) (method : Text) (params : Option Json)
         → (step_of (out_of_step server uri) (request id method params)).sent ≡ (step_of (not_open server uri) (request id method params)).sent }

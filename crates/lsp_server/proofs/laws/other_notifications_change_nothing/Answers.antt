@@ -25,7 +25,7 @@ heard : (phase : Phase) (server : Server) (method : Text) (params : Option Json)
     → notified phase server method params ≡ is_silent server
 heard Running server method (Some params) other =
     last_of (bytes_eq method (codes "textDocument/didOpen")) (bytes_eq method (codes "textDocument/didChange"))
-    (bytes_eq method (codes "textDocument/didClose")) (opened server (opened_of params))
+    (bytes_eq method (codes "textDocument/didClose")) (opened server (opened_of params) (uri_of params))
     (changed server (uri_of params) (version_of params) (changes_of params)) (closed server (uri_of params)) (is_silent server) other
 heard Running server method None other = refl
 heard Fresh server method params other = refl

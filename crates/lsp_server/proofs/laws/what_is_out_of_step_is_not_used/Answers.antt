@@ -5,6 +5,9 @@ use Rattle.lsp_server.proofs.laws.what_is_out_of_step_is_not_used.Goals as goal
 pub returns-clause-told : goal.returns-clause-told
 returns-clause-told c server params uri document running is none there = rw (running, is, none, there) refl
 
+pub returns-clause-opened : goal.returns-clause-opened
+returns-clause-opened c server params uri document running is none there = rw (running, is, none, there) refl
+
 pub returns-clause-asked : goal.returns-clause-asked
 returns-clause-asked c server uri id method params = asked_same server uri id server.phase method params
 

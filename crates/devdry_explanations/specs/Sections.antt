@@ -5,6 +5,7 @@ use Rattle.text_bytes.specs.Names.{newline}
 use Rattle.engine_formats.specs.Advice.{advice_of}
 use Rattle.engine_formats.specs.Remarks.{remark_heading}
 use Rattle.engine_formats.specs.declared.remark.Remark.{Remark}
+use Rattle.devdry_explanations.specs.Texts.{section_of}
 
 -- the sign around code in a text
 abbrev pub backtick : ℕ
@@ -22,7 +23,8 @@ HasHeading remark text = take (length (remark_heading remark) + 2) text ≡ rema
 abbrev pub HasAdvice : Remark → Text → Type 0
 HasAdvice remark text = take (length (advice_of remark)) (unquoted (drop (length (remark_heading remark) + 2) text)) ≡ advice_of remark
 
--- the text is a section on the remark
+-- the text is the section on the remark
 pub record IsSectionOn (remark : Remark) (text : Text) : Type 0 where
+  pub same : text ≡ section_of remark
   pub heading : HasHeading remark text
   pub advice : HasAdvice remark text

@@ -8,8 +8,10 @@ mod again;
 mod disk;
 mod laws;
 mod reading;
+mod reading_laws;
 
 pub use again::Again;
 pub use disk::InputDisk;
 pub use laws::{all_else_is_answered_by_the_disk, the_input_is_a_file};
 pub use reading::{InputFault, read_whole};
+pub use reading_laws::an_input_is_read_to_its_end;

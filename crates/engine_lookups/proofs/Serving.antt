@@ -24,7 +24,7 @@ use Rattle.engine_sessions.proofs.SendLemmas.{hands_after}
 use Rattle.engine_sessions.proofs.Serving.{at_memory, begun-first, begun-following, begun-none, begun-taken, cut_by, memory_most, memory_status, messages_cut, none_is, not_four, not_under, refused_cut, reports_begun, rest_reported}
 use Rattle.engine_lookups.specs.Outcomes.{after_answer, after_messages, answer_to, answered_from, lines_outcome, too_long_line}
 use Rattle.engine_lookups.specs.Databases.{LooksUpBy}
-use Rattle.engine_lookups.specs.Runs.{AnswersFirst, BreaksOffAtFirst, LooksThrough, LooksUp}
+use Rattle.engine_lookups.specs.Runs.{AnswersFirst, BreaksOffAtFirst, LooksThrough, LooksUp, SaysHow}
 use Rattle.engine_lookups.specs.Taking.{Answers, Leads, StopsAt, StopsBy, StopsIn}
 use Rattle.engine_lookups.specs.Inputs.{AnswersInput, Concludes, StopsInput}
 use Rattle.engine_lookups.specs.declared.held.LookupFault.{LookupFault}
@@ -245,18 +245,29 @@ module _ (messages : Text) (answer : Text → Text) (status : ℕ) (before now :
   answered_first (Err (TooLong counted)) t = stopped_first (TooLong counted) (joined t.read) now.input.left t.ends
   answered_first (Err Memory) t = stopped_first Memory (joined t.read) now.input.left t.ends
 
-  concluded : (end : Result (Unit {0}) LookupFault) → Concludes end status after now.err → (now.err ≡ after) ⊎ ((line : Text) × (wanted : ℕ) × ReportsFailure line wanted status after now.err)
-  concluded (Ok done) c = inl c.1
-  concluded (Err Read) c = inr (read_failed, 3, c)
-  concluded (Err Write) c = inr (write_failed, 3, c)
-  concluded (Err (TooLong counted)) c = inr (too_long_line counted, 1, c)
-  concluded (Err Memory) c = inr (out_of_memory, 4, c)
+  -- the line that says how it ended
+  concluded : (end : Result (Unit {0}) LookupFault) (t : AnswersInput answer end (devices_of before) (devices_of now)) → Concludes end status after now.err
+      → SaysHow (length (answered_first end t).answered) status before now after
+  unfolding answered_first stopped_first
+  concluded (Ok done) t c = inl c
+  concluded (Err Read) t c = inr (inr (inr (inl (writes_well before.out now.out (flat_map answer t.ends.answers.ended) t.ends.answers.writes, c))))
+  concluded (Err Write) t c =
+      let s = t.ends.stops in
+      let there = s.at [] (λ f. refl) in
+      let failed = subst (λ n. Counts 1 n now.out.faults) (writes_well before.out s.after (flat_map answer s.ended) s.writes) there.stops.breaks.failed in
+      inr (inr (inr (inr (failed, c))))
+  concluded (Err (TooLong counted)) t c =
+      let s = t.ends.stops in
+      let there = s.at [] (λ f. refl) in
+      let numbered : counted ≡ length s.ended + 1 = omega (arith, there.stops.numbered) in
+      inr (inl (subst (λ n. ReportsFailure (too_long_line n) 1 status after now.err) numbered c))
+  concluded (Err Memory) t c = inr (inr (inl c))
 
   pub looked_up : (end : Result (Unit {0}) LookupFault) → AnswersInput answer end (devices_of before) (devices_of now) → Concludes end status after now.err → LooksUp messages answer status before now
   looked_up end t c =
       let s = served_over end t c in
       let steps : LooksThrough messages answer t.read status before now = record {
-        order = inr (record { after = after; says = says; answers = answered_first end t; concludes = concluded end c });
+        order = inr (record { after = after; says = says; answers = answered_first end t; concludes = concluded end t c });
         reads = t.reads;
         goes_on = t.goes_on;
         due = t.due;

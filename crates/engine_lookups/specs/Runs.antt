@@ -1,15 +1,16 @@
 -- What a run over the lines of an input reads, writes and answers.
-use Rattle.std.specs.Prelude.{◌≡◌, ℕ, ◌<◌, ◌≤◌, ◌⊎◌, List, [], ◌∷◌, ◌++◌, drop, flat_map, length, take}
+use Rattle.std.specs.Prelude.{◌≡◌, ℕ, ◌+◌, ◌<◌, ◌≤◌, ◌⊎◌, List, [], ◌∷◌, ◌++◌, drop, flat_map, length, take}
 use Rattle.text_bytes.specs.Lines.{lines}
 use Rattle.text_bytes.specs.Text.{Text}
 use Rattle.device_core.specs.RunBlocks.{newline_count}
+use Rattle.engine_ends.specs.Counts.{Counts}
 use Rattle.engine_ends.specs.Sinks.{BreaksOff, HandsOn, SinkState}
 use Rattle.engine_ends.specs.Streams.{Streams}
-use Rattle.engine_ends.specs.Delivery.{ReportsFailure}
+use Rattle.engine_ends.specs.Delivery.{ReportsFailure, out_of_memory, write_failed}
 use Rattle.engine_sessions.specs.Inputs.{BeforeReads, GoesOn, ReadsToFault, ReadsWell}
-use Rattle.engine_sessions.specs.Serves.{HasFlushed, Serves, StopsBefore, WritesOut}
+use Rattle.engine_sessions.specs.Serves.{HasFlushed, Serves, StopsBefore, WritesOut, read_failed}
 use Rattle.engine_sessions.specs.Turns.{joined}
-use Rattle.engine_lookups.specs.Outcomes.{lines_outcome, most_bytes}
+use Rattle.engine_lookups.specs.Outcomes.{lines_outcome, most_bytes, too_long_line}
 
 -- the lines of a text that a newline ends: as many, from the first, as it has newlines
 abbrev pub ended_lines : Text → List Text
@@ -42,12 +43,22 @@ pub record AnswersFirst (answer : Text → Text) (text : Text) (before now : Sin
   pub writes : WritesOut before (flat_map answer answered) after
   pub ends : (now ≡ after) ⊎ BreaksOffAtFirst answer others after now
 
+-- How a run ends after answers to so many lines, and which line says so: none if all is well; that the next line is too long; that
+-- memory ran out; that a read failed, if the output did not; or that a write failed, if the output did.
+abbrev pub SaysHow : (answered status : ℕ) → (before now : Streams) → (err : SinkState) → Type 0
+SaysHow answered status before now err =
+    ((status ≡ 0) × (now.err ≡ err))
+    ⊎ ReportsFailure (too_long_line (answered + 1)) 1 status err now.err
+    ⊎ ReportsFailure out_of_memory 4 status err now.err
+    ⊎ ((now.out.faults ≡ before.out.faults) × ReportsFailure read_failed 3 status err now.err)
+    ⊎ (Counts 1 before.out.faults now.out.faults × ReportsFailure write_failed 3 status err now.err)
+
 -- The messages are written, then lines of a text are answered, and then at most one line says how that ended.
 pub record LooksAfter (messages : Text) (answer : Text → Text) (text : Text) (status : ℕ) (before now : Streams) : Type 0 where
   pub after : SinkState
   pub says : HandsOn before.err messages after
   pub answers : AnswersFirst answer text before.out now.out
-  pub concludes : (now.err ≡ after) ⊎ ((line : Text) × (wanted : ℕ) × ReportsFailure line wanted status after now.err)
+  pub concludes : SaysHow (length answers.answered) status before now after
 
 -- These pieces are read, step by step. Nothing is read or answered before the messages are written, and no line after the output failed.
 -- Each read gives a piece, except one that fails. Before each read the input went on, and the answers to all lines that had ended were

@@ -1,5 +1,5 @@
 -- What a scene weighs after an act of a rule.
-use Rattle.std.proofs.Common.{◌≡◌, ℕ, ◌+◌, ◌≤◌, nat_le, Bool, true, false, ◌==◌, List, [], ◌∷◌, ◌++◌, length, Option, Some, None, is_some, ◌||◌, ap, codes, if◌then◌else◌, refl, arith}
+use Rattle.std.proofs.Common.{◌≡◌, ℕ, ◌+◌, ◌*◌, ◌≤◌, nat_le, Bool, true, false, ◌==◌, List, [], ◌∷◌, ◌++◌, length, Option, Some, None, is_some, ◌||◌, ap, codes, if◌then◌else◌, refl, arith}
 use Rattle.std.proofs.lemmas.Bool.{leb-true}
 use Rattle.std.proofs.lemmas.List.Sums.{sum_by-append, sum_by-cons}
 use Rattle.text_bytes.specs.Names.{slash}
@@ -64,7 +64,7 @@ use Rattle.eval_acts.specs.Imports.{not_run, run_builtin, taken, with_found}
 use Rattle.eval_acts.specs.Printed.{printed_properties}
 use Rattle.eval_acts.specs.Questions.{answered_by_block, answered_or_noted, result_of, tested, tested_at, tested_by, tested_by_udev, with_result}
 use Rattle.eval_acts.specs.Unread.{first_unread, unread_notes}
-use Rattle.eval_laws.specs.Allowances.{act_kind_allowance, builtin_allowance, entries_weight, import_allowance}
+use Rattle.eval_laws.specs.Allowances.{act_kind_allowance, entries_weight}
 use Rattle.eval_laws.specs.Inner.{Within, scene_weight}
 use Rattle.eval_laws.specs.Weights.{note_weight}
 use Rattle.eval_laws.proofs.Sums.{filter_light}
@@ -72,7 +72,7 @@ use Rattle.eval_laws.proofs.Found.{found_light}
 use Rattle.eval_laws.proofs.PrintedWeights.{answered_weight, answers_light, file_light, printed_light}
 use Rattle.eval_laws.proofs.StoredWeights.{stored_light}
 use Rattle.eval_laws.proofs.CmdlineWeights.{cmdline_light, line_light, line_weight, set_weight}
-use Rattle.eval_laws.proofs.Scenes.{more, noted_within}
+use Rattle.eval_laws.proofs.Scenes.{more, most_imported, noted_within, second_note, second_room}
 use Rattle.eval_laws.proofs.Starts.{properties_light}
 use Rattle.eval_laws.proofs.FoundWeights.{env_of, found_more, looked_up_light, parent_light, with_maker_light}
 
@@ -245,7 +245,7 @@ module _ (event : EventValue) where
     meant_within known command (asked_for.Other name) light short = notes BuiltinNotRun name
     meant_within known command asked_for.BadArguments light short = notes BadHwdbArguments command
 
-    builtin_within : (profile : Profile) (known : Known) (command : Text) → entries_weight known.entries + (builtin_allowance profile + (length r.file + 280)) ≤ most → event_weight event ≤ most
+    builtin_within : (profile : Profile) (known : Known) (command : Text) → entries_weight known.entries + (most_imported profile + (length r.file + 280)) ≤ most → event_weight event ≤ most
         → Within event (n + most) (builtin_run known r command (builtin profile command) s).0
     builtin_within Manual known command light short = manual_within known command (command_words command) (omega (arith, light))
     builtin_within Udev known command light short = meant_within known command (builtin Udev command) light short
@@ -267,9 +267,9 @@ module _ (event : EventValue) where
         by false over = not_run_within import_of.File
 
     -- udev may set as much as a builtin
-    file_room : (entries : ℕ) → Udev ≡ event.profile → entries + (builtin_allowance event.profile + (length r.file + 280)) ≤ most → most_set + (length r.file + 280) ≤ most
+    file_room : (entries : ℕ) → Udev ≡ event.profile → entries + (most_imported event.profile + (length r.file + 280)) ≤ most → most_set + (length r.file + 280) ≤ most
     file_room entries is light =
-        let same : most_set ≡ builtin_allowance event.profile = ap builtin_allowance is in
+        let same : most_set ≡ most_imported event.profile = ap most_imported is in
         omega (arith, same, light)
 
     program_within : (command : Text) → event_weight event ≤ most → Within event (n + most) (from_program r command s).0
@@ -305,14 +305,14 @@ module _ (event : EventValue) where
         let b = ap (λ e. pairs_weight (env_of (device_at e 1))) h.same in
         parent_within names (device_at s.state.event 1) (omega (arith, a, b, short))
 
-    built_within : (d : ActKind) (known : Known) (given : Rendered) → entries_weight known.entries + (builtin_allowance event.profile + (length r.file + 280)) ≤ most
+    built_within : (d : ActKind) (known : Known) (given : Rendered) → entries_weight known.entries + (most_imported event.profile + (length r.file + 280)) ≤ most
         → event_weight event ≤ most → Within event (n + most) (left r d (on_text (run_builtin known r) given s))
     built_within d known given light short =
         on_text_within d (run_builtin known r) given
-        (λ command. builtin_within s.state.event.profile known command (let same = ap (λ e. builtin_allowance e.profile) h.same in omega (arith, same, light)) short)
+        (λ command. builtin_within s.state.event.profile known command (let same = ap (λ e. most_imported e.profile) h.same in omega (arith, same, light)) short)
 
     import_within : (profile : Profile) (d : ActKind) (known : Known) (from : Import) → profile ≡ event.profile
-        → entries_weight known.entries + (builtin_allowance event.profile + (length r.file + 280)) ≤ most → event_weight event ≤ most → Within event (n + most) (left r d (imported profile known r from s))
+        → entries_weight known.entries + (most_imported event.profile + (length r.file + 280)) ≤ most → event_weight event ≤ most → Within event (n + most) (left r d (imported profile known r from s))
     import_within Manual d known (import.Builtin template) is light short = built_within d known _ light short
     import_within Udev d known (import.Builtin template) is light short = built_within d known _ light short
     import_within Manual d known (import.Parent names text) is light short = second_within names short
@@ -344,14 +344,14 @@ module _ (event : EventValue) where
   unread_within n r s h (Some name) = noted_within event n r AttributeNotRead name s h
 
   command_within : (n : ℕ) (r : Rule) (s : Scene) → Within event n s → (profile : Profile) (template : Template)
-      → Within event (n + (length r.file + 280)) (command_reached profile r template s)
-  command_within n r s h Manual template = more event n (n + (length r.file + 280)) s (omega arith) h
+      → Within event (n + second_note profile r) (command_reached profile r template s)
+  command_within n r s h Manual template = more event n (n + second_note Manual r) s (omega arith) h
   command_within n r s h Udev template = unread_within n r s h (first_unread s.state.event template.pieces)
 
   reached_within : (n : ℕ) (r : Rule) (s : Scene) → Within event n s → (profile : Profile) (from : Import)
-      → Within event (n + (length r.file + 280)) (import_reached profile r from s)
+      → Within event (n + second_note profile r) (import_reached profile r from s)
   reached_within n r s h profile (import.Builtin template) = command_within n r s h profile template
-  reached_within n r s h profile from = more event n (n + (length r.file + 280)) s (omega arith) h
+  reached_within n r s h profile from = more event n (n + second_note profile r) s (omega arith) h
 
   module _ (len : ℕ) (short : event_weight event ≤ len) (known : Known) where
     act_kind_within : (n : ℕ) (r : Rule) (s : Scene) → Within event n s → (d : ActKind) → Within event (n + act_kind_allowance event.profile len known.entries r d) (left r d (performed known r d s))
@@ -363,11 +363,13 @@ module _ (event : EventValue) where
         on_text_within n r (with_result [] s) (emptied n s h) most (omega arith) (act_kind.Program template) (answered_by_block r) (program_text template s.state)
         (asked_within n r (with_result [] s) (emptied n s h) most (omega arith))
     act_kind_within n r s h (act_kind.Import from) =
-        let note : ℕ = length r.file + 280 in
-        let most : ℕ = note + import_allowance event.profile len known.entries (act_kind.Import from) in
+        let note : ℕ = second_note s.state.event.profile r in
+        let most : ℕ = length r.file + 280 + (2 * len + entries_weight known.entries + most_imported event.profile) in
         let reached : Scene = import_reached s.state.event.profile r from s in
         let inside = reached_within n r s h s.state.event.profile from in
-        more event ((n + note) + most) (n + act_kind_allowance event.profile len known.entries r (act_kind.Import from)) _ (omega arith)
+        let same : note ≡ second_note event.profile r = ap (λ e. second_note e.profile r) h.same in
+        let room = second_room event.profile r in
+        more event ((n + note) + most) (n + act_kind_allowance event.profile len known.entries r (act_kind.Import from)) _ (omega (arith, same, room))
         (import_within (n + note) r reached inside most (omega arith) s.state.event.profile (act_kind.Import from) known from (ap (λ e. e.profile) h.same) (omega arith) (omega (arith, short)))
 
     -- an act

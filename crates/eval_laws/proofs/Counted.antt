@@ -1,4 +1,4 @@
--- How many notes a scene has, and how many commands that may leave one: each part of a rule adds at most one.
+-- How many notes a scene has, and how many commands that may leave one: each part of a rule adds at most one, an IMPORT two.
 use Rattle.std.proofs.Common.{◌≡◌, ℕ, ◌+◌, ◌*◌, ◌≤◌, Bool, true, false, List, [], ◌∷◌, length, fold, Option, None, if◌then◌else◌, refl, arith}
 use Rattle.std.proofs.lemmas.List.{length-append}
 use Rattle.std.proofs.lemmas.List.Sums.{sum_by-cons}
@@ -8,6 +8,8 @@ use Rattle.builtin_knowledge.specs.Knowledge.{Known}
 use Rattle.rule_types.specs.declared.roles.PlainKey.{PlainKey}
 use Rattle.rule_types.specs.declared.roles.PlainKey.TheVariants as plain
 use Rattle.rule_types.specs.declared.part.Act.{Act}
+use Rattle.rule_types.specs.declared.part.ActKind.{ActKind}
+use Rattle.rule_types.specs.declared.part.ActKind.TheVariants as act_kind
 use Rattle.rule_types.specs.declared.part.Assignment.{Assignment}
 use Rattle.rule_types.specs.declared.part.Comparison.{Comparison}
 use Rattle.rule_types.specs.declared.part.PlainMatch.{PlainMatch}
@@ -37,12 +39,12 @@ use Rattle.eval_laws.specs.Counts.{most_notes}
 use Rattle.eval_laws.proofs.Sums.{sum_less}
 use Rattle.eval_laws.proofs.CountedActs.{act_counts}
 use Rattle.eval_laws.proofs.CountedSets.{set_counts}
-use Rattle.eval_laws.proofs.Measured.{measured, noted_more}
+use Rattle.eval_laws.proofs.Measured.{act_most, measured, noted_more}
 
--- what the parts of a rule add at most, if each note and each command adds so much: an act adds two
+-- what the parts of a rule add at most, if each note and each command adds so much
 abbrev pub parts_most : ℕ → Rule → ℕ
 parts_most most r =
-    sum_by (λ (p : PlainMatch). most) r.plain + sum_by (λ (p : Act). most + most) r.acts + sum_by (λ (p : Comparison). most) r.results + sum_by (λ (p : Assignment). most) r.sets
+    sum_by (λ (p : PlainMatch). most) r.plain + sum_by (λ (act : Act). act_most most act.kind) r.acts + sum_by (λ (p : Comparison). most) r.results + sum_by (λ (p : Assignment). most) r.sets
 
 ones : {X : Type 0} (xs : List X) → sum_by (λ (x : X). 1) xs ≡ length xs
 ones [] = refl
@@ -63,13 +65,13 @@ module _ (w : Note → ℕ) (v : RunValue → ℕ) (c : Rule → ℕ) (light : (
       by true = let a = each went.0 in omega (arith, a, h)
       by false = omega (arith, h)
 
-  module _ {P : Type 0} (most : ℕ) (step : P → Scene → Went) (each : (p : P) (s : Scene) → counted (step p s).0 ≤ counted s + most) where
-    walk_counts : (ps : List P) (s : Scene) → counted (walk step ps s).0 ≤ counted s + sum_by (λ (p : P). most) ps
+  module _ {P : Type 0} (own : P → ℕ) (step : P → Scene → Went) (each : (p : P) (s : Scene) → counted (step p s).0 ≤ counted s + own p) where
+    walk_counts : (ps : List P) (s : Scene) → counted (walk step ps s).0 ≤ counted s + sum_by own ps
     unfolding walk
     walk_counts [] s = omega arith
     walk_counts (p ∷ ps) s =
-        let a = if_proceeding_counts (walk step ps) (sum_by (λ (q : P). most) ps) (counted s + most) (step p s) (each p s) (walk_counts ps) in
-        let b = sum_by-cons (λ (q : P). most) p ps in
+        let a = if_proceeding_counts (walk step ps) (sum_by own ps) (counted s + own p) (step p s) (each p s) (walk_counts ps) in
+        let b = sum_by-cons own p ps in
         omega (arith, a, b)
 
   module _ (r : Rule) where
@@ -121,17 +123,20 @@ module _ (w : Note → ℕ) (v : RunValue → ℕ) (c : Rule → ℕ) (light : (
       → (s : Scene) → counted (if_proceeding (λ (t : Scene). (fold step t r.sets, true)) (before_sets known r s)).0 ≤ counted s + parts_most (c r) r
   went_counts known r step each s =
       let most : ℕ = c r in
-      let p : ℕ = counted s + sum_by (λ (x : PlainMatch). most) r.plain in
-      let a : ℕ = p + sum_by (λ (x : Act). most + most) r.acts in
-      let b : ℕ = a + sum_by (λ (x : Comparison). most) r.results in
+      let plain_own : PlainMatch → ℕ = λ x. most in
+      let act_own : Act → ℕ = λ act. act_most most act.kind in
+      let result_own : Comparison → ℕ = λ x. most in
+      let p : ℕ = counted s + sum_by plain_own r.plain in
+      let a : ℕ = p + sum_by act_own r.acts in
+      let b : ℕ = a + sum_by result_own r.results in
       let plainly : Went = walk (plain_step r) r.plain s in
       let found : Went = if_proceeding (search r.up) plainly in
       let acted : Went = if_proceeding (walk (act_step known r) r.acts) found in
-      let after_plain = walk_counts most (plain_step r) (plain_counts r) r.plain s in
+      let after_plain = walk_counts plain_own (plain_step r) (plain_counts r) r.plain s in
       let after_up = if_proceeding_counts (search r.up) 0 p plainly after_plain (search_counts r r.up) in
       let after_acts =
-      if_proceeding_counts (walk (act_step known r) r.acts) (sum_by (λ (x : Act). most + most) r.acts) p found (omega (arith, after_up)) (walk_counts (most + most) (act_step known r) (act_counts w v c light known r) r.acts) in
-      let after_results = if_proceeding_counts (walk result_step r.results) (sum_by (λ (x : Comparison). most) r.results) a acted after_acts (walk_counts most result_step (result_counts r) r.results) in
+      if_proceeding_counts (walk (act_step known r) r.acts) (sum_by act_own r.acts) p found (omega (arith, after_up)) (walk_counts act_own (act_step known r) (act_counts w v c light known r) r.acts) in
+      let after_results = if_proceeding_counts (walk result_step r.results) (sum_by result_own r.results) a acted after_acts (walk_counts result_own result_step (result_counts r) r.results) in
       let after_sets = if_proceeding_counts (λ (t : Scene). (fold step t r.sets, true)) (sum_by (λ (x : Assignment). most) r.sets) b (before_sets known r s) after_results (sets_count r step each r.sets) in
       omega (arith, after_sets)
 
@@ -208,15 +213,24 @@ lates_count state (kept ∷ runs) =
     let c = lates_count state runs in
     omega (arith, a, b, c)
 
-twos : {X : Type 0} (xs : List X) → sum_by (λ (x : X). 2) xs ≡ 2 * length xs
-twos [] = refl
-twos (x ∷ xs) = let a = sum_by-cons (λ y. 2) x xs in let b = twos xs in omega (arith, a, b)
+act_twice : (d : ActKind) → act_most 1 d ≤ 2
+act_twice (act_kind.Test mask template) = omega arith
+act_twice (act_kind.Program template) = omega arith
+act_twice (act_kind.Import from) = omega arith
+
+acts_twice : (acts : List Act) → sum_by (λ (act : Act). act_most 1 act.kind) acts ≤ 2 * length acts
+acts_twice [] = omega arith
+acts_twice (act ∷ acts) =
+    let a = sum_by-cons (λ (x : Act). act_most 1 x.kind) act acts in
+    let b = act_twice act.kind in
+    let c = acts_twice acts in
+    omega (arith, a, b, c)
 
 -- if each note counts one
 parts_count : (r : Rule) → parts_most 1 r ≤ most_notes r
 parts_count r =
     let a = ones r.plain in
-    let b = twos r.acts in
+    let b = acts_twice r.acts in
     let c = ones r.results in
     let d = ones r.sets in
     omega (arith, a, b, c, d)

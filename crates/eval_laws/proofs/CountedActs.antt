@@ -58,7 +58,7 @@ use Rattle.eval_lookups.specs.LookUps.{found}
 use Rattle.eval_acts.specs.Printed.{printed_properties}
 use Rattle.eval_acts.specs.Questions.{answered_by_block, answered_or_noted, result_of, tested, tested_at, tested_by, tested_by_udev, with_result}
 use Rattle.eval_acts.specs.Unread.{first_unread, unread_notes}
-use Rattle.eval_laws.proofs.Measured.{measured, noted_more}
+use Rattle.eval_laws.proofs.Measured.{act_most, measured, noted_more}
 
 module _ (w : Note → ℕ) (v : RunValue → ℕ) (c : Rule → ℕ) (light : (r : Rule) (kind : NoteKind) (text : Text) → w (note_about r kind text) ≤ c r) where
   abbrev counted : Scene → ℕ
@@ -216,22 +216,18 @@ module _ (w : Note → ℕ) (v : RunValue → ℕ) (c : Rule → ℕ) (light : (
   reached_counts profile r (import.Builtin template) s = command_counts profile r template s
   reached_counts profile r from s = omega arith
 
-  act_kind_counts : (known : Known) (r : Rule) (s : Scene) (d : ActKind) → counted (left r d (performed known r d s)) ≤ counted s + (c r + c r)
-  act_kind_counts known r s (act_kind.Test mask template) =
-      let a = on_text_counts r s (act_kind.Test mask template) (tested r mask) (test_text template s.state) (tested_counts r s mask) in
-      omega (arith, a)
+  act_kind_counts : (known : Known) (r : Rule) (s : Scene) (d : ActKind) → counted (left r d (performed known r d s)) ≤ counted s + act_most (c r) d
+  act_kind_counts known r s (act_kind.Test mask template) = on_text_counts r s (act_kind.Test mask template) (tested r mask) (test_text template s.state) (tested_counts r s mask)
   act_kind_counts known r s (act_kind.Program template) =
-      let a =
       on_text_counts r (with_result [] s) (act_kind.Program template) (answered_by_block r) (program_text template s.state)
-      (λ command. answered_counts r (with_result [] s) command (value_of s.state.event.programs command)) in
-      omega (arith, a)
+      (λ command. answered_counts r (with_result [] s) command (value_of s.state.event.programs command))
   act_kind_counts known r s (act_kind.Import from) =
       let reached : Scene = import_reached s.state.event.profile r from s in
       let a = reached_counts s.state.event.profile r from s in
       let b = import_counts r reached s.state.event.profile (act_kind.Import from) known from in
       omega (arith, a, b)
 
-  -- an act of a rule, which leaves at most two notes
-  pub act_counts : (known : Known) (r : Rule) (act : Act) (s : Scene) → counted (act_step known r act s).0 ≤ counted s + (c r + c r)
+  -- an act of a rule
+  pub act_counts : (known : Known) (r : Rule) (act : Act) (s : Scene) → counted (act_step known r act s).0 ≤ counted s + act_most (c r) act.kind
   unfolding act_step
   act_counts known r act s = act_kind_counts known r s act.kind

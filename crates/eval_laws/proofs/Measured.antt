@@ -3,6 +3,8 @@ use Rattle.std.proofs.Common.{ℕ, ◌+◌, ◌≤◌, arith}
 use Rattle.std.proofs.lemmas.List.Sums.{sum_by_push}
 use Rattle.std.specs.List.{sum_by}
 use Rattle.text_bytes.specs.Text.{Text}
+use Rattle.rule_types.specs.declared.part.ActKind.{ActKind}
+use Rattle.rule_types.specs.declared.part.ActKind.TheVariants as act_kind
 use Rattle.rule_types.specs.Rules.{Rule}
 use Rattle.eval_state.specs.Notes.{note_about}
 use Rattle.eval_state.specs.Runs.{RunValue}
@@ -23,3 +25,9 @@ noted_more w v c light r s kind text =
     let a = sum_by_push w s.notes (note_about r kind text) in
     let b = light r kind text in
     omega (arith, a, b)
+
+-- what an act adds at most, if each note adds so much: an IMPORT may leave two
+abbrev pub act_most : ℕ → ActKind → ℕ
+act_most most (act_kind.Test mask template) = most
+act_most most (act_kind.Program template) = most
+act_most most (act_kind.Import from) = most + most

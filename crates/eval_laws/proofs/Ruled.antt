@@ -1,13 +1,16 @@
 -- What a scene weighs after a rule, and after all rules.
-use Rattle.std.proofs.Common.{◌≡◌, ℕ, ◌+◌, ◌≤◌, Bool, true, false, List, [], ◌∷◌, length, fold, Option, None, if◌then◌else◌, arith}
+use Rattle.std.proofs.Common.{◌≡◌, ℕ, ◌+◌, ◌≤◌, Bool, true, false, List, [], ◌∷◌, length, fold, Option, None, if◌then◌else◌, refl, ap, sym, ◌∙◌, arith}
 use Rattle.std.proofs.lemmas.List.Sums.{sum_by-cons}
 use Rattle.std.specs.List.{sum_by}
+use Rattle.text_bytes.specs.declared.profile.Profile.TheVariants.{Udev}
 use Rattle.text_bytes.specs.Text.{Text}
 use Rattle.builtin_knowledge.specs.Knowledge.{Known}
 use Rattle.rule_types.specs.Written.{attribute_of_plain}
 use Rattle.rule_types.specs.declared.roles.PlainKey.{PlainKey}
 use Rattle.rule_types.specs.declared.roles.PlainKey.TheVariants as plain
 use Rattle.rule_types.specs.declared.part.Act.{Act}
+use Rattle.rule_types.specs.declared.part.ActKind.{ActKind}
+use Rattle.rule_types.specs.declared.part.ActKind.TheVariants as act_kind
 use Rattle.rule_types.specs.declared.part.Assignment.{Assignment}
 use Rattle.rule_types.specs.declared.part.Comparison.{Comparison}
 use Rattle.rule_types.specs.declared.part.PlainMatch.{PlainMatch}
@@ -26,10 +29,12 @@ use Rattle.eval_assignments.specs.Steps.{set_step}
 use Rattle.eval_rules.specs.Jumps.{is_passed, run, sought_after}
 use Rattle.eval_rules.specs.Idle.{is_idle}
 use Rattle.eval_rules.specs.Steps.{Went, apply, if_proceeding, only_noted, plain_step, result_step, search, set_all, steps, walk}
-use Rattle.eval_laws.specs.Allowances.{act_kind_allowance, part_allowance, rule_allowance, set_allowance}
+use Rattle.eval_rules.proofs.Skipped.{by_udev}
+use Rattle.eval_laws.specs.Allowances.{act_kind_allowance, builtin_allowance, part_allowance, rule_allowance, set_allowance}
 use Rattle.eval_laws.specs.Inner.{Within, scene_weight}
 use Rattle.eval_laws.specs.Weights.{note_weight}
 use Rattle.eval_laws.proofs.Counted.{noted_counts, parts_most}
+use Rattle.eval_laws.proofs.Measured.{act_most}
 use Rattle.eval_laws.proofs.Sums.{sum_less}
 use Rattle.eval_laws.proofs.Scenes.{more, note_light, noted_within}
 use Rattle.eval_laws.proofs.Stepped.{set_within}
@@ -120,33 +125,41 @@ module _ (event : EventValue) where
         let after_sets = if_proceeding_within (set_all r) (sum_by set_own r.sets) q _ after_results (λ t within. sets_within len short r r.sets q t within) in
         more event b (n + rule_allowance event.profile len known.entries r) _ (omega arith) after_sets
 
+    -- what the notes of an act weigh for udev
+    act_notes_fit : event.profile ≡ Udev → (r : Rule) (d : ActKind) → act_most (length r.file + 280) d ≤ act_kind_allowance event.profile len known.entries r d
+    act_notes_fit udev r (act_kind.Test mask template) = omega arith
+    act_notes_fit udev r (act_kind.Program template) = omega arith
+    act_notes_fit udev r (act_kind.Import from) =
+        let same : builtin_allowance event.profile r ≡ builtin_allowance Udev r = ap (λ p. builtin_allowance p r) udev in
+        omega (arith, same)
+
     -- what the notes of all parts weigh
-    notes_fit : (r : Rule) → parts_most (length r.file + 280) r ≤ rule_allowance event.profile len known.entries r
+    notes_fit : event.profile ≡ Udev → (r : Rule) → parts_most (length r.file + 280) r ≤ rule_allowance event.profile len known.entries r
     unfolding rule_allowance
-    notes_fit r =
+    notes_fit udev r =
         let most : ℕ = length r.file + 280 in
         let a = sum_less (λ (m : PlainMatch). most) (λ m. part_allowance r (attribute_of_plain m.key)) (λ m. omega arith) r.plain in
-        let b = sum_less (λ (m : Act). most + most) (λ act. act_kind_allowance event.profile len known.entries r act.kind) (λ act. omega arith) r.acts in
+        let b = sum_less (λ (act : Act). act_most most act.kind) (λ act. act_kind_allowance event.profile len known.entries r act.kind) (λ act. act_notes_fit udev r act.kind) r.acts in
         let c = sum_less (λ (m : Comparison). most) (λ m. part_allowance r None) (λ m. omega arith) r.results in
         let d = sum_less (λ (m : Assignment). most) (set_allowance event.profile len r) (λ a. omega arith) r.sets in
         omega (arith, a, b, c, d)
 
-    -- a rule that is skipped
-    passed_within : (r : Rule) (n : ℕ) (s : Scene) → Within event n s → Within event (n + rule_allowance event.profile len known.entries r) (only_noted known r s).0
+    -- a rule that is skipped, which none is by the manual
+    passed_within : event.profile ≡ Udev → (r : Rule) (n : ℕ) (s : Scene) → Within event n s → Within event (n + rule_allowance event.profile len known.entries r) (only_noted known r s).0
     unfolding scene_weight
-    passed_within r n s h =
+    passed_within udev r n s h =
         let a = h.light in
         let b = noted_counts note_weight (λ q. length q.file + 280) note_light known r s in
-        let c = notes_fit r in
+        let c = notes_fit udev r in
         record { same = h.same; light = omega (arith, a, b, c) }
 
     rule_within : (r : Rule) (n : ℕ) (s : Scene) → Within event n s → Within event (n + rule_allowance event.profile len known.entries r) (apply known r s).0
     unfolding apply
-    rule_within r n s h = by (is_idle r s.state.event)
+    rule_within r n s h = by (is_idle r s.state.event) refl
       where
-        by : (b : Bool) → Within event (n + rule_allowance event.profile len known.entries r) (if b then only_noted known r s else steps known r s).0
-        by true = passed_within r n s h
-        by false = steps_within r n s h
+        by : (b : Bool) → is_idle r s.state.event ≡ b → Within event (n + rule_allowance event.profile len known.entries r) (if b then only_noted known r s else steps known r s).0
+        by true idle = passed_within (sym (ap (λ (e : EventValue). e.profile) h.same) ∙ by_udev s.state.event.profile r s.state.event idle) r n s h
+        by false idle = steps_within r n s h
 
     -- all rules
     pub run_within : (rules : List Rule) (sought : Option Text) (n : ℕ) (s : Scene) → Within event n s → Within event (n + sum_by (rule_allowance event.profile len known.entries) rules) (run known sought rules s)

@@ -3,6 +3,8 @@ use Rattle.std.proofs.Common.{ℕ, ◌+◌, ◌≤◌, length, take, arith}
 use Rattle.std.proofs.lemmas.List.{length-take}
 use Rattle.std.proofs.lemmas.List.Sums.{sum_by_push}
 use Rattle.std.proofs.Math.Nat.{min-le_left}
+use Rattle.text_bytes.specs.declared.profile.Profile.{Profile}
+use Rattle.text_bytes.specs.declared.profile.Profile.TheVariants.{Manual, Udev}
 use Rattle.text_bytes.specs.Text.{Text}
 use Rattle.rule_types.specs.Rules.{Rule}
 use Rattle.device_core.specs.Values.{EventValue}
@@ -12,6 +14,8 @@ use Rattle.eval_state.specs.Scenes.{noted}
 use Rattle.eval_state.specs.declared.note_kind.NoteKind.{NoteKind}
 use Rattle.eval_state.specs.declared.note_kind.NoteKind.TheVariants.{ImportNotRun, BuiltinNotRun, BadHwdbArguments, NoAnswer, TestNotMade, SysctlNotRead, TextTooLong, NameIgnored, NoDeviceNumber, NoValue, LinkIgnored, ModeIgnored, TagIgnored, AttributeNotRead, AttributeNotFound, BuiltinNeeds, ConstantNotGiven}
 use Rattle.eval_state.specs.declared.scene.Scene.{Scene}
+use Rattle.eval_acts.specs.BuiltinRuns.{most_set}
+use Rattle.eval_laws.specs.Allowances.{builtin_allowance}
 use Rattle.eval_laws.specs.Weights.{note_weight}
 use Rattle.eval_laws.specs.Inner.{Within, scene_weight}
 
@@ -76,3 +80,18 @@ noted_within event n r kind text s h =
 -- the same within a greater bound
 pub note_within : (event : EventValue) (n k : ℕ) (r : Rule) (s : Scene) → Within event n s → length r.file + 280 ≤ k → (kind : NoteKind) (text : Text) → Within event (n + k) (noted r kind text s)
 note_within event n k r s h room kind text = more event (n + (length r.file + 280)) (n + k) (noted r kind text s) (omega (arith, room)) (noted_within event n r kind text s h)
+
+-- what a builtin of udev may set, or is taken of a file
+abbrev pub most_imported : Profile → ℕ
+most_imported Manual = 0
+most_imported Udev = most_set
+
+-- what an IMPORT that is reached may leave for udev, before the note about what it does
+abbrev pub second_note : Profile → Rule → ℕ
+second_note Manual r = 0
+second_note Udev r = length r.file + 280
+
+-- both have room in what is allowed for an IMPORT
+pub second_room : (profile : Profile) (r : Rule) → second_note profile r + most_imported profile ≤ builtin_allowance profile r + 280
+second_room Manual r = omega arith
+second_room Udev r = omega arith

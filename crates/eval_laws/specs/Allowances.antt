@@ -35,20 +35,20 @@ entries_weight entries = sum_by entry_weight entries
 abbrev pub part_allowance : Rule → Option Text → ℕ
 part_allowance r attribute = most_added + length (or_empty attribute) + length r.file
 
--- what a builtin of udev may set, and what is taken of a file
-abbrev pub builtin_allowance : Profile → ℕ
-builtin_allowance Manual = 0
-builtin_allowance Udev = most_set
+-- what a builtin of udev may set, or is taken of a file, and the name of the rule's file in udev's second note
+abbrev pub builtin_allowance : Profile → Rule → ℕ
+builtin_allowance Manual r = 0
+builtin_allowance Udev r = most_set + length r.file
 
 -- what IMPORT may add in addition, by a profile and for a block of so many bytes
-abbrev pub import_allowance : Profile → ℕ → List Entry → ActKind → ℕ
-import_allowance profile len entries (act_kind.Import i) = 2 * len + entries_weight entries + builtin_allowance profile
-import_allowance profile len entries (act_kind.Test mask t) = 0
-import_allowance profile len entries (act_kind.Program t) = 0
+abbrev pub import_allowance : Profile → ℕ → List Entry → Rule → ActKind → ℕ
+import_allowance profile len entries r (act_kind.Import i) = 2 * len + entries_weight entries + builtin_allowance profile r
+import_allowance profile len entries r (act_kind.Test mask t) = 0
+import_allowance profile len entries r (act_kind.Program t) = 0
 
--- something that is done, which may leave a second note
+-- something that is done
 abbrev pub act_kind_allowance : Profile → ℕ → List Entry → Rule → ActKind → ℕ
-act_kind_allowance profile len entries r d = part_allowance r (attribute_of_act_kind d) + length r.file + import_allowance profile len entries d
+act_kind_allowance profile len entries r d = part_allowance r (attribute_of_act_kind d) + import_allowance profile len entries r d
 
 -- what udev may add in addition if a text is assigned, by the text as it is written, for a block of so many bytes: a
 -- label that is rendered to nothing is as it is written, and the name of an attribute may come from the block

@@ -3,7 +3,7 @@ use Rattle.devdry_options.specs.Files.{bad_line}
 use Rattle.devdry_options.specs.Words.{is_word}
 use Rattle.devdry_options.specs.Names.{flag_names, valued_names, repeated_names}
 use Rattle.text_bytes.specs.Texts.{split_once}
-use Rattle.devdry_options.proofs.Utf8.{ascii_is_utf8}
+use Rattle.link_files.proofs.Ascii.{ascii_is_utf8}
 use Rattle.devdry_options.proofs.laws.lines_that_are_bad.Goals as goal
 
 pub returns : goal.returns

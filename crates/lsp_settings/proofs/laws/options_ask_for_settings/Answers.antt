@@ -1,10 +1,11 @@
-use Rattle.std.proofs.Common.{refl}
+use Rattle.std.proofs.Common.{codes, refl}
 use Rattle.text_bytes.specs.Texts.{split_once}
 use Rattle.engine_formats.specs.Codes.{remark_of}
 use Rattle.engine_formats.specs.Ignored.{codes_with}
 use Rattle.engine_formats.specs.Remarks.{heading_parts}
 use Rattle.devdry_options.specs.Names.{flag_names, repeated_names, valued_names}
 use Rattle.devdry_options.specs.Words.{is_word}
+use Rattle.link_files.proofs.Ascii.{ascii_is_utf8}
 use Rattle.lsp_settings.specs.Options.{settings_of}
 use Rattle.lsp_settings.proofs.laws.options_ask_for_settings.Goals as goal
 
@@ -14,20 +15,20 @@ returns-clause-none c = refl
 
 pub returns-clause-strict : goal.returns-clause-strict
 unfolding settings_of is_word flag_names valued_names repeated_names split_once remark_of codes_with heading_parts
-returns-clause-strict c e = rw e refl
+returns-clause-strict c = rw (ascii_is_utf8 (codes "--strict") refl) refl
 
 pub returns-clause-flags : goal.returns-clause-flags
 unfolding settings_of is_word flag_names valued_names repeated_names split_once remark_of codes_with heading_parts
-returns-clause-flags c e f g = rw (e, f, g) refl
+returns-clause-flags c = rw (ascii_is_utf8 (codes "--lint") refl, ascii_is_utf8 (codes "--no-style") refl, ascii_is_utf8 (codes "--format=json") refl) refl
 
 pub returns-clause-ignored : goal.returns-clause-ignored
 unfolding settings_of is_word flag_names valued_names repeated_names split_once remark_of codes_with heading_parts
-returns-clause-ignored c e f g = rw (e, f, g) refl
+returns-clause-ignored c = rw (ascii_is_utf8 (codes "--udev") refl, ascii_is_utf8 (codes "--ignore=V6,I") refl, ascii_is_utf8 (codes "--ignore=comments") refl) refl
 
 pub returns-clause-option : goal.returns-clause-option
 unfolding settings_of is_word flag_names valued_names repeated_names split_once remark_of codes_with heading_parts
-returns-clause-option c e = rw e refl
+returns-clause-option c = rw (ascii_is_utf8 (codes "--lint") refl) refl
 
 pub returns-clause-code : goal.returns-clause-code
 unfolding settings_of is_word flag_names valued_names repeated_names split_once remark_of codes_with heading_parts
-returns-clause-code c e = rw e refl
+returns-clause-code c = rw (ascii_is_utf8 (codes "--ignore=V6,X1") refl) refl

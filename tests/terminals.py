@@ -159,8 +159,9 @@ def check_progress(folder):
     for device in ("devices/one", "devices/one/two"):
         (folder / "sys" / device).mkdir(parents=True)
         (folder / "sys" / device / "uevent").touch()
-    block = "C: add\nP: /devices/one\n\n"
-    blocks = "C: add\nP: /devices/one/two\nP: /devices/one\n\n" + block
+        (folder / "sys" / device / "subsystem").symlink_to("../class/u")
+    block = "C: add\nP: /devices/one\nU: u\nA: subsystem=u\n\n"
+    blocks = "C: add\nP: /devices/one/two\nU: u\nA: subsystem=u\nP: /devices/one\nU: u\nA: subsystem=u\n\n" + block
     counts = "".join(f"\r{count:40}\r" for count in ("1 of 2 devices", "2 of 2 devices", ""))
     for places, wanted in ((["stderr"], counts), ([], "")):
         wrote = at_terminals(CAPTURE, folder, "--all --sysfs sys", places)

@@ -1,5 +1,5 @@
 -- What is found among values as they are seen.
-use Rattle.std.proofs.Common.{◌≡◌, ◌∙◌, Bool, true, false, cond, List, [], ◌∷◌, Option, Some, None, ap, find, map, option_map, refl, sym}
+use Rattle.std.proofs.Common.{◌≡◌, ◌∙◌, Bool, true, false, cond, List, [], ◌∷◌, Option, Some, ap, find, map, option_map, refl, sym}
 
 -- to find among texts as they are seen is to find among them, and to see that
 find_seen : {A B : Type 0} (P : B → Bool) (f : A → B) (xs : List A) → find P (map f xs) ≡ option_map f (find (λ x. P (f x)) xs)

@@ -127,32 +127,44 @@ lacks_answer_format name rows = answers_blocks name && not (option_map_or is_for
 abbrev pub unknown_part : List Row → Option Text
 unknown_part rows = unknown_ignored (texts_of (codes "ignore") rows)
 
--- why a file may not be added for a subcommand, if one may not: `verify` reads only rules
-abbrev pub wrong_added : Text → List Row → Option Refusal
-wrong_added name rows = if bytes_eq name (codes "verify") && is_some (unaddable true rows) then Some NotRules
-    else (if is_some (unaddable false rows) then Some NotFile else (if adds_to_index rows then Some AddedToIndex else None))
+-- Reasons to refuse matches, each with whether it is met.
 
--- why a value that has to be one of a few is refused, if it is: answers can't be written in the format, no format has
--- the name, colors are asked for in no known way, a part of `--ignore` names nothing, or a file may not be added
-abbrev pub unknown_value : Text → List Row → Option Refusal
-unknown_value name rows = if lacks_answer_format name rows then Some NoAnswerFormat
-    else (if is_none (format_of rows) then Some UnknownFormat
-    else (if is_none (color_of rows) then Some UnknownColor
-    else (if is_some (unknown_part rows) then Some UnknownPart else wrong_added name rows)))
+-- why a file may not be added for a subcommand: `verify` reads only rules
+abbrev pub added_reasons : Text → List Row → List (Bool × Refusal)
+added_reasons name rows = (bytes_eq name (codes "verify") && is_some (unaddable true rows), NotRules)
+    ∷ (is_some (unaddable false rows), NotFile)
+    ∷ (adds_to_index rows, AddedToIndex) ∷ []
 
--- why the matches of a subcommand are refused, if they are
+-- why a value that has to be one of a few is refused: answers can't be written in the format, no format has the name, colors
+-- are asked for in no known way, a part of `--ignore` names nothing, or a file may not be added
+abbrev pub value_reasons : Text → List Row → List (Bool × Refusal)
+value_reasons name rows = (lacks_answer_format name rows, NoAnswerFormat)
+    ∷ (is_none (format_of rows), UnknownFormat)
+    ∷ (is_none (color_of rows), UnknownColor)
+    ∷ (is_some (unknown_part rows), UnknownPart) ∷ added_reasons name rows
+
+-- why the matches of a subcommand are refused
+abbrev pub reasons : Text → List Row → List (Bool × Refusal)
+reasons name rows = (names_two name rows, TwoDatabases)
+    ∷ (links_as_rules rows, LinksAsRules)
+    ∷ (adds_to_named rows, AddedToNamed)
+    ∷ (adds_to_rules rows, AddedToRules)
+    ∷ (asks_both rows, TwoAnswers)
+    ∷ (breaks_json rows, LinesBesideJson)
+    ∷ (reads_twice name rows, InputTwice)
+    ∷ (lacks_input rows, UnreadInput)
+    ∷ (lacks_root name rows, EmptyRoot)
+    ∷ (lacks_side rows, EmptySide)
+    ∷ (lacks_udev name rows, NoUdev) ∷ value_reasons name rows
+
+-- the refusal of the first reason that is met, if one is
+abbrev pub first_met : List (Bool × Refusal) → Option Refusal
+first_met [] = None
+first_met (reason ∷ others) = if reason.0 then Some reason.1 else first_met others
+
+-- how the matches of a subcommand are refused, if they are
 abbrev pub refusal_of : Text → List Row → Option Refusal
-refusal_of name rows = if names_two name rows then Some TwoDatabases
-    else (if links_as_rules rows then Some LinksAsRules
-    else (if adds_to_named rows then Some AddedToNamed
-    else (if adds_to_rules rows then Some AddedToRules
-    else (if asks_both rows then Some TwoAnswers
-    else (if breaks_json rows then Some LinesBesideJson
-    else (if reads_twice name rows then Some InputTwice
-    else (if lacks_input rows then Some UnreadInput
-    else (if lacks_root name rows then Some EmptyRoot
-    else (if lacks_side rows then Some EmptySide
-    else (if lacks_udev name rows then Some NoUdev else unknown_value name rows))))))))))
+refusal_of name rows = first_met (reasons name rows)
 
 -- what is said about a value that its argument does not take, by what comes before and after the value
 abbrev pub invalid_value : Text → Text → Text

@@ -9,6 +9,7 @@ mod arguments;
 mod commands;
 mod endings;
 mod ignored;
+mod laws;
 mod line_reading;
 mod options;
 mod parse;
@@ -18,5 +19,6 @@ mod reporting;
 mod subcommands;
 mod values;
 
+pub use laws::no_reason_is_met_by_what_is_taken;
 pub use options::{options_in, with_options};
 pub use parse::parse_line;

@@ -6,8 +6,9 @@ ghost use Rattle.std.specs.Option.{option_map_or};
 ghost use Rattle.std.specs.Prelude.{◌≡◌, false};
 ghost use Rattle.clap.specs.Words.{found_of, rows_of};
 ghost use Rattle.devdry_words.specs.Named.{IsUsageOf};
-ghost use Rattle.devdry_words.specs.Refusals.{answers_blocks, asks_all, asks_both, breaks_json, is_for_answers, is_strict, lacks_answer_format, links_as_rules};
-ghost use Rattle.devdry_words.specs.Refusals.{lacks_root, lacks_side, lacks_udev, names_two, refusal_of, said_of, unknown_value, wrong_added};
+ghost use Rattle.devdry_words.specs.Refusals.{added_reasons, answers_blocks, asks_all, asks_both, breaks_json, first_met, is_for_answers, is_strict};
+ghost use Rattle.devdry_words.specs.Refusals.{lacks_answer_format, lacks_root, lacks_side, lacks_udev, links_as_rules, names_two, refusal_of, said_of};
+ghost use Rattle.devdry_words.specs.Refusals.{value_reasons};
 
 use crate::added::{adds_to_index, adds_to_named, adds_to_rules, unaddable, unaddable_text};
 use crate::ignored::{unknown_part, unknown_text};
@@ -272,7 +273,7 @@ fn lacks_answer_format(name: &str, matches: &ArgMatches<'_>) -> bool
 
 /// Why a file may not be added for a subcommand, if one may not.
 fn wrong_added(name: &str, matches: &ArgMatches<'_>) -> Option<Refusal>
-    ensures { result ≡ wrong_added name.now (rows_of (found_of matches.now)) }
+    ensures { result ≡ first_met (added_reasons name.now (rows_of (found_of matches.now))) }
 {
     if (name == "verify") & unaddable(true, matches).is_some() {
         Some(Refusal::NotRules)
@@ -287,7 +288,7 @@ fn wrong_added(name: &str, matches: &ArgMatches<'_>) -> Option<Refusal>
 
 /// Why a value of the matches of a subcommand that has to be one of a few is refused, if it is.
 fn unknown_value(name: &str, matches: &ArgMatches<'_>) -> Option<Refusal>
-    ensures { result ≡ unknown_value name.now (rows_of (found_of matches.now)) }
+    ensures { result ≡ first_met (value_reasons name.now (rows_of (found_of matches.now))) }
 {
     if lacks_answer_format(name, matches) {
         Some(Refusal::NoAnswerFormat)

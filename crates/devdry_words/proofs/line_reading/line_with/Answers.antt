@@ -1,4 +1,4 @@
-use Rattle.std.proofs.Common.{rules, ◌≡◌, ap, not, refl}
+use Rattle.std.proofs.Common.{rules, ap, not, refl}
 use Rattle.devdry_words.proofs.line_reading.line_with.Goals as goal
 
 -- src/line_reading.rt:132:1

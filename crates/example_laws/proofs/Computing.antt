@@ -1,7 +1,9 @@
 -- What a proof unfolds so that an answer computes from texts. A word marked `unfoldable` that an answer is made by is named here:
 -- where one is not, the proofs of the examples that use it fail, as nothing then says what it is.
 use Rattle.std.specs.Prelude.{⊤}
+use Rattle.std.specs.Char.{encode_utf8}
 use Rattle.std.specs.Fmt.{digits}
+use Rattle.std.specs.Str.{chars, is_utf8}
 use Rattle.rule_templates.specs.Braces.{braced}
 use Rattle.rule_templates.specs.Integers.{size_in, marked, signed, signed_size, integer_of, natural_of}
 use Rattle.rule_templates.specs.Number.{word_of, udev_word_of}
@@ -38,6 +40,18 @@ use Rattle.device_core.specs.Parts as device_core_parts
 use Rattle.device_core.specs.RunBlocks.{line_of_excess}
 use Rattle.device_notes.specs.Notes.{block_notes}
 use Rattle.hwdb_core.specs.Sources.{are_few}
+use Rattle.hwdb_lints.specs.Lints.{database_lints}
+use Rattle.link_files.specs.Booleans.{is_no, is_yes}
+use Rattle.link_files.specs.Files.{is_drop_in, link_file, link_files, listed_path}
+use Rattle.link_files.specs.Lines.{is_comment, joined_from, stripped}
+use Rattle.link_files.specs.Lists.{is_list, last_of, list_of, texts_of, with_texts_of}
+use Rattle.link_files.specs.Names.{is_interface_name}
+use Rattle.link_files.specs.Settings.{section_of, with_file, with_line}
+use Rattle.link_files.specs.Words.{is_whole, split, split_byte, words_of as link_words_of}
+use Rattle.link_lints.specs.Faults.{file_faults, line_faults, section_after}
+use Rattle.link_lints.specs.Joined.{joined_after, joined_lines}
+use Rattle.link_lints.specs.Keys.{form_of as link_form_of}
+use Rattle.link_lints.specs.Matching.{asks_address, asks_machine, asks_name, asks_system, link_faults}
 use Rattle.text_bytes.specs.Numbers.{decimal_below}
 use Rattle.text_bytes.specs.Texts.{split_once}
 use Rattle.text_core.specs.Choices.{choice_by, choice, choice_blind}
@@ -110,7 +124,9 @@ use Rattle.engine_formats.specs.Lines.{gcc_line, plain_line, spot_of}
 use Rattle.engine_formats.specs.Near as engine_formats_near
 use Rattle.engine_formats.specs.Remarks.{heading_parts}
 use Rattle.engine_checks.specs.Ignores.{ignores_in}
+use Rattle.engine_checks.specs.Links.{links_outcome, links_reported}
 use Rattle.engine_checks.specs.Reported.{file_reported}
+use Rattle.engine_reports.specs.Outcomes.{database_outcome}
 use Rattle.engine_courses.specs.Asked.{unread, unknown_line, unknown}
 use Rattle.engine_courses.specs.Named.{alike}
 use Rattle.engine_courses.specs.Meant.{meant_file}
@@ -153,9 +169,15 @@ unfoldable reading_databases : ⊤
 unfolding are_few
 reading_databases = tt
 
+-- those by which .link files are read, and name interfaces
+unfoldable reading_links : ⊤
+unfolding is_no is_yes is_drop_in link_file link_files listed_path is_comment joined_from stripped is_list last_of list_of texts_of
+    with_texts_of is_interface_name section_of with_file with_line is_whole split split_byte link_words_of
+reading_links = tt
+
 -- those of texts and patterns
 unfoldable reading_texts : ⊤
-unfolding decimal_below split_once choice_by choice choice_blind class_of named_class symbol_len point ranged
+unfolding chars is_utf8 encode_utf8 decimal_below split_once choice_by choice choice_blind class_of named_class symbol_len point ranged
     element_of fnmatch_bracket fnmatch_first fnmatch_choice bits_of set_of bracket first_item spell_by spell
     spell_blind kernel_name sequence_len is_reached is_hex_escape stays safe_byte safe underscored
 reading_texts = tt
@@ -186,9 +208,12 @@ unfoldable checking : ⊤
 unfolding placed_findings lints_of_rule placed_lints given_in form_of matter_of pair_findings beginning part_ways parts_from_all
     is_same is_against said_of words_of findings_as rule_remarks token_remarks file_remarks value_fault
     engine_reports_checks.summary_line remark_of gcc_line plain_line spot_of heading_parts ignores_in file_reported
+    file_faults line_faults section_after joined_after joined_lines link_form_of asks_address asks_machine asks_name
+    asks_system link_faults links_outcome links_reported database_lints database_outcome
 checking = tt
 
 -- all of these
 unfoldable pub computed : ⊤
-unfolding digits answered_by sourced sourced_as_udev explained explained_as_udev asked asked_in_vain told_people unused_by checking reading_rules reading_blocks reading_databases reading_texts evaluating reporting writing
+unfolding digits answered_by sourced sourced_as_udev explained explained_as_udev asked asked_in_vain told_people
+    unused_by checking reading_rules reading_blocks reading_databases reading_links reading_texts evaluating reporting writing
 computed = tt

@@ -1,13 +1,15 @@
--- What `verify` says is a function of what its line asks for, so that it computes.
-use Rattle.std.proofs.Common.{◌≡◌, Bool, true, List, [], ◌∷◌, map, flat_map, cond, refl, ap, ◌∙◌}
+-- What `verify` and `update` say is a function of what their lines ask for, so that it computes.
+use Rattle.std.proofs.Common.{◌≡◌, Bool, true, List, [], ◌∷◌, ◌++◌, length, map, flat_map, cond, refl, ap, ◌∙◌}
 use Rattle.text_bytes.specs.FileOrder.{ordered}
 use Rattle.text_bytes.specs.Kinds.{suffix_of}
 use Rattle.text_bytes.specs.Lines.{numbered_lines}
 use Rattle.text_bytes.specs.declared.profile.Profile.{Profile}
 use Rattle.text_bytes.specs.declared.profile.Profile.TheVariants.{Manual, Udev}
-use Rattle.text_bytes.specs.declared.source_file.FileKind.TheVariants.{Rules}
+use Rattle.text_bytes.specs.declared.source_file.FileKind.TheVariants.{Hwdb, Rules}
 use Rattle.text_bytes.specs.declared.source_file.SourceFile.{SourceFile}
 use Rattle.text_bytes.specs.Text.{Text}
+use Rattle.hwdb_core.specs.Sources.{messages_of}
+use Rattle.link_files.specs.Files as links
 use Rattle.rule_core.specs.Ends.{file_as_read}
 use Rattle.rule_core.specs.Rules.{set_of_as}
 use Rattle.rule_remarks.specs.Findings.{findings_as}
@@ -16,14 +18,16 @@ use Rattle.engine_ends.specs.Kinds.{names_files_of}
 use Rattle.engine_ends.specs.declared.line.Format.{Format}
 use Rattle.engine_ends.specs.declared.line.Line.{Line}
 use Rattle.engine_reports.specs.Checks.{files_said}
-use Rattle.engine_reports.specs.Outcomes.{hold_few_tokens, too_many_rules}
+use Rattle.engine_reports.specs.Outcomes.{database_outcome, hold_few_tokens, too_many_rules, update_status}
+use Rattle.trie_core.specs.Image.{image}
 use Rattle.engine_formats.specs.Diagnostics.{DiagnosticValue}
 use Rattle.engine_formats.specs.Formats.{formatted}
 use Rattle.engine_formats.specs.Paths.{path_in_folder}
-use Rattle.engine_checks.specs.Files.{asked_by, found_with, ignores_counted, lints_counted, rules_reported}
-use Rattle.engine_checks.specs.Outcomes.{checks_outcome, in_format, rules_checks}
+use Rattle.engine_checks.specs.Files.{asked_by, database_found_with, database_lints_counted, database_reported, found_with, ignores_counted, lints_counted, rules_reported}
+use Rattle.engine_checks.specs.Links.{links_found, links_outcome, links_reported}
+use Rattle.engine_checks.specs.Outcomes.{checks_outcome, database_checks, in_format, rules_checks}
 use Rattle.engine_checks.specs.Reported.{Asked, FileText, file_reported}
-use Rattle.example_laws.specs.Checked.{Checks, rules_file}
+use Rattle.example_laws.specs.Checked.{Checks, ChecksDatabase, ChecksLinks, database_file, rules_file}
 
 -- a named file as diagnostics show it
 abbrev shown_file : SourceFile → FileText
@@ -84,3 +88,62 @@ checked asked format rules outcome computes line is =
     ∙ ap (λ f. said_by asked f line.summary rules) is.writes
     ∙ ap (λ s. said_by asked format s rules) is.counts
     ∙ computes
+
+-- a .link file as diagnostics show it, by whether it is named and by the root of its folder
+abbrev pub shown_link : Bool → Text → SourceFile → FileText
+shown_link named root file =
+    record { name = file.name; path = cond named file.name (root ++ links.path_of file); lines = numbered_lines file.bytes }
+
+-- what is reported for .link files by what is asked for
+abbrev pub links_reported_by : Bool → Asked → Text → List SourceFile → List DiagnosticValue
+links_reported_by named asked root files =
+    flat_map (λ file. file_reported asked (shown_link named root file) (ignores_counted asked file) (links_found (shown_link named root file) files file)) files
+
+-- what is said about them
+abbrev pub links_said_by : Bool → Asked → Format → Bool → Text → List SourceFile → RunOutcome
+links_said_by named asked format summary root files =
+    in_format format
+    (files_said summary files (map (λ d. d.name) (links_reported_by named asked root files)) (formatted format (links_reported_by named asked root files)))
+
+-- so what `verify --links` says is what it asks for
+pub checked_links : (asked : Asked) (format : Format) (files : List SourceFile) (outcome : RunOutcome)
+    → ((root : Text) → links_said_by true asked format true root files ≡ outcome) → ChecksLinks asked format files outcome
+unfolding links_outcome links_reported
+checked_links asked format files outcome computes line is =
+    ap (λ n. links_said_by n (asked_by line) line.format line.summary line.root.now files) is.named
+    ∙ ap (λ a. links_said_by true a line.format line.summary line.root.now files) is.asks
+    ∙ ap (λ f. links_said_by true asked f line.summary line.root.now files) is.writes
+    ∙ ap (λ s. links_said_by true asked format s line.root.now files) is.counts
+    ∙ computes line.root.now
+
+-- what is reported for a file of a database that is shown so, by what is asked for
+abbrev pub database_reported_by : Asked → FileText → SourceFile → List DiagnosticValue
+database_reported_by asked shown file =
+    file_reported asked shown (ignores_counted asked file) (database_found_with shown (messages_of (file ∷ [])) (database_lints_counted asked file))
+
+-- the messages about it
+abbrev pub database_told : Asked → Format → Bool → FileText → SourceFile → Text
+database_told asked format strict shown file =
+    (database_outcome (λ entries messages. in_format format (record {
+      output = image entries;
+      messages = formatted format (flat_map (database_reported_by asked shown) (file ∷ []));
+      status = update_status strict (length (flat_map (database_reported_by asked shown) (file ∷ [])));
+    })) (file ∷ [])).messages
+
+-- so what `update` writes as messages is what it asks for
+pub checked_database : (asked : Asked) (format : Format) (database messages : Text)
+    → ((strict : Bool) → database_told asked format strict (shown_file (database_file database)) (database_file database) ≡ messages)
+    → ChecksDatabase asked format database messages
+unfolding database_checks database_reported
+checked_database asked format database messages computes line is =
+    ap (λ b. (database_checks line (cond b (file ∷ []) (ordered (suffix_of Hwdb) (file ∷ [])))).messages) is.named
+    ∙ ap (λ b. told_at (cond b file.name (path_in_folder line.root.now file))) is.named
+    ∙ ap (λ a. database_told a line.format line.strict (shown_file file) file) is.asks
+    ∙ ap (λ f. database_told asked f line.strict (shown_file file) file) is.writes
+    ∙ computes line.strict
+  where
+    file : SourceFile
+    file = database_file database
+
+    told_at : Text → Text
+    told_at path = database_told (asked_by line) line.format line.strict (record { name = file.name; path = path; lines = numbered_lines file.bytes }) file

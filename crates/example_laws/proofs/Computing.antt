@@ -1,7 +1,10 @@
 -- What a proof unfolds so that an answer computes from texts. A word marked `unfoldable` that an answer is made by is named here:
 -- where one is not, the proofs of the examples that use it fail, as nothing then says what it is.
 use Rattle.std.specs.Prelude.{⊤}
+use Rattle.std.specs.Char.{encode_utf8}
 use Rattle.std.specs.Fmt.{digits}
+use Rattle.std.specs.Str.{chars, is_utf8}
+use Rattle.json.specs.Print.{escape_byte, print_from}
 use Rattle.rule_templates.specs.Braces.{braced}
 use Rattle.rule_templates.specs.Integers.{size_in, marked, signed, signed_size, integer_of, natural_of}
 use Rattle.rule_templates.specs.Number.{word_of, udev_word_of}
@@ -38,6 +41,24 @@ use Rattle.device_core.specs.Parts as device_core_parts
 use Rattle.device_core.specs.RunBlocks.{line_of_excess}
 use Rattle.device_notes.specs.Notes.{block_notes}
 use Rattle.hwdb_core.specs.Sources.{are_few}
+use Rattle.hwdb_lints.specs.Lints.{database_lints}
+use Rattle.link_files.specs.Booleans.{is_no, is_yes}
+use Rattle.link_files.specs.Files.{is_drop_in, link_file, link_files, listed_path}
+use Rattle.link_files.specs.Lines.{is_comment, joined_from, stripped}
+use Rattle.link_files.specs.Lists.{is_list, last_of, list_of, texts_of, with_texts_of}
+use Rattle.link_files.specs.Names.{is_interface_name}
+use Rattle.link_files.specs.Settings.{section_of, with_file, with_line}
+use Rattle.link_files.specs.Words.{is_whole, split, split_byte, words_of as link_words_of}
+use Rattle.link_lints.specs.Faults.{file_faults, line_faults, section_after}
+use Rattle.link_lints.specs.Joined.{joined_after, joined_lines}
+use Rattle.link_lints.specs.Keys.{form_of as link_form_of}
+use Rattle.link_lints.specs.Matching.{asks_address, asks_machine, asks_name, asks_system, link_faults}
+use Rattle.builtin_devices.specs.Numbers.{digits_in, is_below_zero, name_number, number_in, written}
+use Rattle.builtin_link.specs.Checks.{address_check, checks_of, kind_checks, known_check, name_checks, permanent_address, property_check, text_check}
+use Rattle.builtin_link.specs.Globs.{passes}
+use Rattle.builtin_link.specs.Hardware.{hardware_name, type_text}
+use Rattle.builtin_link.specs.Link.{by_files, net_setup_link}
+use Rattle.builtin_link.specs.Policies.{given_name, keeps_name, name_of, new_name, policies_count, policies_of, property_of}
 use Rattle.text_bytes.specs.Numbers.{decimal_below}
 use Rattle.text_bytes.specs.Texts.{split_once}
 use Rattle.text_core.specs.Choices.{choice_by, choice, choice_blind}
@@ -46,6 +67,8 @@ use Rattle.text_core.specs.Elements.{named_class, symbol_len, point, ranged, ele
 use Rattle.text_core.specs.Fnmatch.{fnmatch_bracket, fnmatch_first, fnmatch_choice}
 use Rattle.text_core.specs.Sets.{bits_of, set_of}
 use Rattle.text_core.specs.Spell.{bracket, first_item, spell_by, spell, spell_blind}
+use Rattle.text_json.specs.Told.{told_text}
+use Rattle.text_json.specs.Values.{value_line}
 use Rattle.text_links.specs.Kernels.{kernel_name}
 use Rattle.text_links.specs.Safe.{sequence_len, is_reached, is_hex_escape, stays, safe_byte, safe}
 use Rattle.text_links.specs.Underscores.{underscored}
@@ -110,7 +133,9 @@ use Rattle.engine_formats.specs.Lines.{gcc_line, plain_line, spot_of}
 use Rattle.engine_formats.specs.Near as engine_formats_near
 use Rattle.engine_formats.specs.Remarks.{heading_parts}
 use Rattle.engine_checks.specs.Ignores.{ignores_in}
+use Rattle.engine_checks.specs.Links.{links_outcome, links_reported}
 use Rattle.engine_checks.specs.Reported.{file_reported}
+use Rattle.engine_reports.specs.Outcomes.{database_outcome}
 use Rattle.engine_courses.specs.Asked.{unread, unknown_line, unknown}
 use Rattle.engine_courses.specs.Named.{alike}
 use Rattle.engine_courses.specs.Meant.{meant_file}
@@ -118,6 +143,8 @@ use Rattle.engine_courses.specs.Nearest.{least}
 use Rattle.engine_courses.specs.WhyLines.{why_line, unread_text, reported_from, why_lines}
 use Rattle.engine_courses.specs.Questions.{question_answer}
 use Rattle.engine_answers.specs.Answers.{lines_with}
+use Rattle.engine_json.specs.Answers.{answer_members}
+use Rattle.engine_json.specs.Members as engine_json_members
 use Rattle.engine_answers.specs.Items.{node_lines, item_lines}
 use Rattle.engine_answers.specs.Lines.{text_line, pair_line, run_line, block_note_line, note_line}
 use Rattle.engine_ends.specs.EventLine.{event_line}
@@ -126,8 +153,8 @@ use Rattle.eval_courses.specs.Fates.{fate, fates_from, keys_reached}
 use Rattle.eval_unread.specs.Unread.{rule_unread, rules_unread}
 use Rattle.engine_unused.specs.Rows.{counted, with_fates}
 use Rattle.engine_unused.specs.Unused.{greatest, line_on, lines_by, unmet_text, unused_lines}
-use Rattle.example_laws.specs.Answered.{answered_by}
-use Rattle.example_laws.specs.Reported.{sourced, sourced_as_udev, explained, explained_as_udev, asked, asked_in_vain, told_people, unused_by}
+use Rattle.example_laws.specs.Answered.{answered_by, answered_by_links}
+use Rattle.example_laws.specs.Reported.{sourced, sourced_as_udev, explained, explained_as_udev, asked, asked_in_vain, told_as_object, told_people, unused_by, unused_with_added}
 
 -- the words by which the text of a rules file is read
 unfoldable reading_rules : ⊤
@@ -153,9 +180,18 @@ unfoldable reading_databases : ⊤
 unfolding are_few
 reading_databases = tt
 
+-- those by which .link files are read, and name interfaces
+unfoldable reading_links : ⊤
+unfolding is_no is_yes is_drop_in link_file link_files listed_path is_comment joined_from stripped is_list last_of list_of texts_of
+    with_texts_of is_interface_name section_of with_file with_line is_whole split split_byte link_words_of
+    digits_in is_below_zero name_number number_in written address_check checks_of kind_checks known_check name_checks
+    permanent_address property_check text_check passes hardware_name type_text by_files net_setup_link given_name
+    keeps_name name_of new_name policies_count policies_of property_of
+reading_links = tt
+
 -- those of texts and patterns
 unfoldable reading_texts : ⊤
-unfolding decimal_below split_once choice_by choice choice_blind class_of named_class symbol_len point ranged
+unfolding chars is_utf8 encode_utf8 decimal_below split_once choice_by choice choice_blind class_of named_class symbol_len point ranged
     element_of fnmatch_bracket fnmatch_first fnmatch_choice bits_of set_of bracket first_item spell_by spell
     spell_blind kernel_name sequence_len is_reached is_hex_escape stays safe_byte safe underscored
 reading_texts = tt
@@ -178,7 +214,9 @@ reporting = tt
 
 -- those by which an answer is written
 unfoldable writing : ⊤
-unfolding lines_with node_lines item_lines text_line pair_line run_line block_notes block_note_line note_line event_line block_line block_said
+unfolding escape_byte print_from told_text value_line answer_members engine_json_members.sourced engine_json_members.node_members
+    engine_json_members.label_value engine_json_members.item_members engine_json_members.run_value
+    engine_json_members.note_value engine_json_members.block_note_value lines_with node_lines item_lines text_line pair_line run_line block_notes block_note_line note_line event_line block_line block_said
 writing = tt
 
 -- those by which files are checked
@@ -186,9 +224,12 @@ unfoldable checking : ⊤
 unfolding placed_findings lints_of_rule placed_lints given_in form_of matter_of pair_findings beginning part_ways parts_from_all
     is_same is_against said_of words_of findings_as rule_remarks token_remarks file_remarks value_fault
     engine_reports_checks.summary_line remark_of gcc_line plain_line spot_of heading_parts ignores_in file_reported
+    file_faults line_faults section_after joined_after joined_lines link_form_of asks_address asks_machine asks_name
+    asks_system link_faults links_outcome links_reported database_lints database_outcome
 checking = tt
 
 -- all of these
 unfoldable pub computed : ⊤
-unfolding digits answered_by sourced sourced_as_udev explained explained_as_udev asked asked_in_vain told_people unused_by checking reading_rules reading_blocks reading_databases reading_texts evaluating reporting writing
+unfolding digits answered_by answered_by_links sourced sourced_as_udev explained explained_as_udev asked asked_in_vain told_as_object told_people
+    unused_by unused_with_added checking reading_rules reading_blocks reading_databases reading_links reading_texts evaluating reporting writing
 computed = tt

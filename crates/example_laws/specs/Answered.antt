@@ -17,6 +17,8 @@ use Rattle.device_core.specs.Values.{EventValue, by_profile}
 use Rattle.device_core.specs.declared.faults.BlockFault.{BlockFault}
 use Rattle.builtin_knowledge.specs.Knowledge.{Known}
 use Rattle.builtin_devices.specs.Outcomes.{failing}
+use Rattle.builtin_core.specs.Builtins.{known_by}
+use Rattle.link_files.specs.Files.{link_files}
 use Rattle.engine_answers.specs.Answers.{answer_by}
 
 -- the text of lines, each with its newline
@@ -34,6 +36,10 @@ read_by profile rules = set_of_as profile (file_as_read profile (file_with Rules
 -- the entries of one file of a database, `d.hwdb`
 abbrev pub entries_in : Text → List Entry
 entries_in database = entries_of (file_with Hwdb (codes "d.hwdb") database ∷ [])
+
+-- what is known beside an event by .link files and their drop-ins, without a database
+abbrev pub by_links : (links drop_ins : List SourceFile) → Known
+by_links links drop_ins = known_by (record { links = link_files links drop_ins; files = []; entries = [] })
 
 -- what is known beside an event: the entries of a database, and builtins of udev that find nothing, as no example runs one;
 -- no file of the root was read
@@ -54,9 +60,13 @@ abbrev pub answer_to : (EventValue → Text) → Profile → Result EventValue B
 answer_to answering profile (Ok event) = answering (by_profile profile event)
 answer_to answering profile (Err fault) = fault_text fault
 
--- what `events` answers, by a profile, the text of a rules file, that of a file of a database, and that of a block
+-- what `events` answers, by what is known beside an event, a profile, the text of a rules file and that of a block
+abbrev pub answered_knowing : Known → Profile → Text → Text → Text
+answered_knowing known profile rules block = answer_to (answer_by (read_by profile rules).rules known) profile (block_gives block)
+
+-- what it answers, by a profile, the text of a rules file, that of a file of a database, and that of a block
 unfoldable pub answered_by : Profile → Text → Text → Text → Text
-answered_by profile rules database block = answer_to (answer_by (read_by profile rules).rules (only_entries (entries_in database))) profile (block_gives block)
+answered_by profile rules database block = answered_knowing (only_entries (entries_in database)) profile rules block
 
 -- what it answers by the manual
 abbrev pub answered_with_database : Text → Text → Text → Text
@@ -69,3 +79,7 @@ answered rules block = answered_by Manual rules [] block
 -- what it answers as udev does, without a database
 abbrev pub answered_as_udev : Text → Text → Text
 answered_as_udev rules block = answered_by Udev rules [] block
+
+-- what it answers as udev does, by .link files and their drop-ins
+unfoldable pub answered_by_links : (links drop_ins : List SourceFile) → Text → Text → Text
+answered_by_links links drop_ins rules block = answered_knowing (by_links links drop_ins) Udev rules block

@@ -1,8 +1,8 @@
--- What `verify` says about the text of a rules file, whatever else its line asks for.
+-- What `verify` and `update` say about the texts of files, whatever else their lines ask for.
 use Rattle.std.specs.Prelude.{◌≡◌, ℕ, true, false, List, [], ◌∷◌, None, codes}
 use Rattle.text_bytes.specs.declared.profile.Profile.{Profile}
 use Rattle.text_bytes.specs.declared.profile.Profile.TheVariants.{Manual}
-use Rattle.text_bytes.specs.declared.source_file.FileKind.TheVariants.{Rules}
+use Rattle.text_bytes.specs.declared.source_file.FileKind.TheVariants.{Hwdb, Rules}
 use Rattle.text_bytes.specs.declared.source_file.SourceFile.{SourceFile}
 use Rattle.text_bytes.specs.Text.{Text}
 use Rattle.engine_ends.specs.Delivery.{RunOutcome}
@@ -10,7 +10,8 @@ use Rattle.engine_ends.specs.Kinds.{names_files_of}
 use Rattle.engine_ends.specs.declared.line.Format.{Format}
 use Rattle.engine_ends.specs.declared.line.Line.{Line}
 use Rattle.engine_checks.specs.Files.{asked_by}
-use Rattle.engine_checks.specs.Outcomes.{checks_outcome}
+use Rattle.engine_checks.specs.Links.{links_outcome}
+use Rattle.engine_checks.specs.Outcomes.{checks_outcome, reported_update_outcome}
 use Rattle.engine_checks.specs.Reported.{Asked}
 use Rattle.example_laws.specs.Answered.{file_with}
 
@@ -40,3 +41,22 @@ Checks asked format rules said = (line : Line) → IsVerify asked format line �
 -- the outcome with this output, these messages and this status
 abbrev pub said : Text → Text → ℕ → RunOutcome
 said output messages status = record { output = output; messages = messages; status = status }
+
+-- such a line with `--links` has this outcome over .link files
+abbrev pub ChecksLinks : Asked → Format → List SourceFile → RunOutcome → Type 0
+ChecksLinks asked format links said = (line : Line) → IsVerify asked format line → links_outcome line links ≡ said
+
+-- A line of `update` names a file of a database, asks for that, and writes messages in a format.
+pub record IsUpdate (asked : Asked) (format : Format) (line : Line) : Type 0 where
+  pub named : names_files_of line Hwdb ≡ true
+  pub asks : asked_by line ≡ asked
+  pub writes : line.format ≡ format
+
+-- the file of a database with a text
+abbrev pub database_file : Text → SourceFile
+database_file database = file_with Hwdb (codes "d.hwdb") database
+
+-- such a line writes these messages over a file of a database with a text
+abbrev pub ChecksDatabase : Asked → Format → Text → (messages : Text) → Type 0
+ChecksDatabase asked format database messages =
+    (line : Line) → IsUpdate asked format line → (reported_update_outcome line (database_file database ∷ [])).messages ≡ messages

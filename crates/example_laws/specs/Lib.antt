@@ -1,3 +1,4 @@
 pub mod Answered
 pub mod Reported
 pub mod Checked
+pub mod Sessions

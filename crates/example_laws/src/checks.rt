@@ -1,9 +1,11 @@
-//! Examples of `verify`.
+//! Examples of `verify`, and of `update --lint`.
 ghost use Rattle.std.specs.Prelude.{◌∷◌, [], codes};
 ghost use Rattle.text_bytes.specs.declared.profile.Profile.TheVariants.{Manual, Udev};
+ghost use Rattle.text_bytes.specs.declared.source_file.FileKind.TheVariants.{Rules};
 ghost use Rattle.engine_ends.specs.declared.line.Format.TheVariants.{Gcc, Plain};
 ghost use Rattle.example_laws.specs.Answered.{text};
-ghost use Rattle.example_laws.specs.Checked.{Checks, linting, not_linting, said};
+ghost use Rattle.link_files.specs.Examples.{at};
+ghost use Rattle.example_laws.specs.Checked.{Checks, ChecksDatabase, ChecksLinks, linting, not_linting, said};
 
 /// W8 is reported for a NAME in a rule that no network device meets, and not in one that some may meet.
 pub fn a_name_is_reported_in_a_rule_that_no_network_device_meets()
@@ -16,14 +18,75 @@ pub fn a_name_is_reported_in_a_rule_that_no_network_device_meets()
 {}
 
 /// W7 is reported for an assignment before a match of its rule if a rule compares the same with the same value, and not
-/// after the matches, nor with another value, another name or another key.
+/// after the matches, nor with another value, another name, another key or `+=`.
 pub fn an_assignment_is_reported_for_which_a_comparison_was_meant()
     ensures { Checks (linting Manual []) Gcc
         (text (
         codes "ENV{A}==\"1\", TAG+=\"t\"" ∷ codes "ENV{A}=\"1\", KERNEL==\"k\"" ∷ codes "KERNEL==\"k\", ENV{A}=\"1\""
-        ∷ codes "ENV{A}=\"2\", KERNEL==\"k\"" ∷ codes "ENV{B}=\"1\", KERNEL==\"k\"" ∷ codes "ATTR{A}=\"1\", KERNEL==\"k\"" ∷ []))
+        ∷ codes "ENV{A}=\"2\", KERNEL==\"k\"" ∷ codes "ENV{B}=\"1\", KERNEL==\"k\"" ∷ codes "ATTR{A}=\"1\", KERNEL==\"k\""
+        ∷ codes "ENV{A}+=\"1\", KERNEL==\"k\"" ∷ []))
         (said (codes "1 files checked, 0 good, 1 bad\n")
         (codes "r.rules:2:1: warning: value assigned that others compare: A [W7]\n") 1) }
+{}
+
+/// W6 is reported for a match of a property whose family the file imports only further down, and, in a rule that imports what a
+/// program prints, for a match behind the import and not for one before it.
+pub fn a_property_that_is_imported_further_down_is_reported()
+    ensures { Checks (linting Manual []) Gcc
+        (text (
+        codes "KERNEL==\"a\", ENV{ID_FS_TYPE}==\"ext4\", MODE=\"0660\"" ∷ codes "KERNEL==\"a\", IMPORT{builtin}=\"blkid\""
+        ∷ codes "KERNEL==\"a\", ENV{ID_FS_TYPE}==\"ext4\", MODE=\"0660\""
+        ∷ codes "KERNEL==\"a\", ENV{A}==\"1\", IMPORT{program}=\"/p\", ENV{B}==\"2\", MODE=\"0660\"" ∷ []))
+        (said (codes "1 files checked, 0 good, 1 bad\n")
+        (codes "r.rules:1:14: warning: property imported further down: ID_FS_TYPE [W6]\nr.rules:4:49: warning: property imported further down: B [W6]\n") 1) }
+{}
+
+/// W16 to W19 are reported at values that nothing has, at blanks beside a bar, at names near a known one, and at what is not
+/// substituted, also for matches along the chain.
+pub fn values_and_names_that_fit_nothing_are_reported()
+    ensures { Checks (linting Manual []) Gcc
+        (text (
+        codes "ATTRS{idVendor}==\"0x04d8\", MODE=\"0660\"" ∷ codes "ATTRS{idVendor}==\"04d8\", MODE=\"0660\""
+        ∷ codes "KERNEL==\"a | b\", MODE=\"0660\"" ∷ codes "KERNEL==\"a|b\", MODE=\"0660\""
+        ∷ codes "KERNEL==\"a\", ENV{idVendor}==\"1\", MODE=\"0660\"" ∷ codes "KERNEL==\"%k\", MODE=\"0660\"" ∷ []))
+        (said (codes "1 files checked, 0 good, 1 bad\n")
+        (text (
+        codes "r.rules:1:19: warning: value that never fits: 0x04d8 [W16]" ∷ codes "r.rules:3:10: warning: blank beside a bar: a | b [W17]"
+        ∷ codes "r.rules:5:14: warning: name near a known one: ATTRS [W18]" ∷ codes "r.rules:6:10: warning: no substitution: %k [W19]" ∷ [])) 1) }
+{}
+
+/// W20 to W23 are reported for lists that are replaced, for values that were meant to be compared, for long names of interfaces,
+/// and for units that are wanted by devices without a tag.
+pub fn assignments_that_are_not_meant_are_reported()
+    ensures { Checks (linting Manual []) Gcc
+        (text (
+        codes "KERNEL==\"a\", RUN=\"/b\"" ∷ codes "KERNEL==\"a\", ATTR{serial}=\"1\"" ∷ codes "SUBSYSTEM==\"net\", NAME=\"a-name-of-16-byt\""
+        ∷ codes "SUBSYSTEM==\"net\", NAME=\"a-name-of-15-by\"" ∷ codes "SUBSYSTEM==\"usb\", ENV{SYSTEMD_WANTS}+=\"a\"" ∷ []))
+        (said (codes "1 files checked, 0 good, 1 bad\n")
+        (text (
+        codes "r.rules:1:14: warning: list replaced: RUN [W20]" ∷ codes "r.rules:2:14: warning: value assigned instead of compared: ATTR [W21]"
+        ∷ codes "r.rules:3:25: warning: name of a network device too long: a-name-of-16-byt [W22]"
+        ∷ codes "r.rules:5:19: warning: unit wanted without a tag: ENV [W23]" ∷ [])) 1) }
+{}
+
+/// With `--links` L1 to L4 are reported at what a file may not have, and L5 for a file for no interface. A key about the machine asks
+/// for one, too.
+pub fn faults_of_link_files_are_reported()
+    ensures { ChecksLinks not_linting Gcc
+        (at Rules 3 (codes "a.link") (codes "[Match]\nVirtualization=yes\n[Link]\nNmae=a\nNTupleFilter=maybe\nName\n[Matsch]")
+        ∷ at Rules 3 (codes "b.link") (codes "[Link]\nName=b") ∷ [])
+        (said (codes "2 files checked, 0 good, 2 bad\n")
+        (text (
+        codes "a.link:4:1: error: unknown key: Nmae [L2]" ∷ codes "a.link:5:14: error: bad value: maybe [L4]"
+        ∷ codes "a.link:6:1: error: bad line: Name [L3]" ∷ codes "a.link:7:2: error: unknown section: Matsch [L1]"
+        ∷ codes "b.link:1:1: error: file for no interface [L5]" ∷ [])) 1) }
+{}
+
+/// A flag of the database is `1` or `0`: `update --lint` reports D13 for any other value.
+pub fn a_flag_is_one_or_zero()
+    ensures { ChecksDatabase (linting Manual []) Gcc
+        (codes "usb:v0*\n ID_AUTOSUSPEND=0\n\nusb:v1*\n ID_AUTOSUSPEND=1\n\nusb:v2*\n ID_AUTOSUSPEND=2\n")
+        (codes "d.hwdb:8:2: warning: value that the property does not take: ID_AUTOSUSPEND=2 [D13]\n") }
 {}
 
 /// W10 is reported for a name with a quote, and not for a value with one.

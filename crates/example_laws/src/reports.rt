@@ -1,7 +1,7 @@
-//! Examples of `--sources`, `--why` and `--questions`.
-ghost use Rattle.std.specs.Prelude.{◌≡◌, ◌∷◌, [], None, Some, codes};
+//! Examples of `--sources`, `--why`, `--questions` and `--format=json`.
+ghost use Rattle.std.specs.Prelude.{◌≡◌, ◌∷◌, ◌++◌, [], None, Some, codes, false, true};
 ghost use Rattle.example_laws.specs.Answered.{answered, text};
-ghost use Rattle.example_laws.specs.Reported.{asked, asked_in_vain, explained, explained_as_udev, sourced, sourced_as_udev};
+ghost use Rattle.example_laws.specs.Reported.{asked, asked_in_vain, explained, explained_as_udev, sourced, sourced_as_udev, told_as_object};
 
 /// With `--sources` each line has the rule that it comes from, or none if it was there from the start.
 pub fn each_line_comes_from_the_rule_that_last_changed_it()
@@ -43,6 +43,23 @@ pub fn each_line_comes_from_the_rule_that_last_changed_it()
         ≡ text (
         codes "event add /d" ∷ codes "-: env ACTION=add" ∷ codes "-: env DEVPATH=/d" ∷ codes "r.rules:1: run program a"
         ∷ codes "r.rules:2: run builtin kmod c" ∷ codes "r.rules:2: run program b" ∷ codes "r.rules:3: run program a" ∷ codes "" ∷ []) }
+{}
+
+/// With `--format=json` an answer is one object on one line, in which with `--sources` each value has the rule that it comes from, unless
+/// it was there from the start. Without `--sources` none has.
+pub fn an_object_has_the_rules_that_it_is_asked_for()
+    ensures sources { told_as_object true
+        (text (codes "TAG+=\"t\"" ∷ codes "SYMLINK+=\"l\"" ∷ codes "ENV{A}=\"1\"" ∷ []))
+        (codes "C: add\nP: /d\nS: k")
+        ≡ codes "{\"event\":\"add\",\"path\":\"/d\",\"labels\":[],\"links\":[{\"value\":\"k\"},{\"value\":\"l\",\"file\":\"r.rules\",\"line\":2}],"
+        ++ codes "\"tags\":[{\"value\":\"t\",\"file\":\"r.rules\",\"line\":1}],"
+        ++ codes "\"env\":{\"A\":{\"value\":\"1\",\"file\":\"r.rules\",\"line\":3},\"ACTION\":{\"value\":\"add\"},\"DEVPATH\":{\"value\":\"/d\"}},"
+        ++ codes "\"attr\":{},\"sysctl\":{},\"run\":[],\"notes\":[],\"why\":[]}\n" }
+    ensures plain { told_as_object false
+        (text (codes "TAG+=\"t\"" ∷ codes "SYMLINK+=\"l\"" ∷ codes "ENV{A}=\"1\"" ∷ []))
+        (codes "C: add\nP: /d\nS: k")
+        ≡ codes "{\"event\":\"add\",\"path\":\"/d\",\"labels\":[],\"links\":[\"k\",\"l\"],\"tags\":[\"t\"],"
+        ++ codes "\"env\":{\"A\":\"1\",\"ACTION\":\"add\",\"DEVPATH\":\"/d\"},\"attr\":{},\"sysctl\":{},\"run\":[],\"notes\":[],\"why\":[]}\n" }
 {}
 
 /// With `--why` each rule says what its keys met up to the one that fails, and then where it stops or what it changed; a rule that is

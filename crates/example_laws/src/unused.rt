@@ -2,7 +2,7 @@
 ghost use Rattle.std.specs.Prelude.{◌≡◌, ◌∷◌, [], codes};
 ghost use Rattle.text_bytes.specs.declared.profile.Profile.TheVariants.{Manual, Udev};
 ghost use Rattle.example_laws.specs.Answered.{text};
-ghost use Rattle.example_laws.specs.Reported.{unused_by};
+ghost use Rattle.example_laws.specs.Reported.{unused_by, unused_with_added};
 
 /// A rule that no event met is told with the key that stopped most of the events that reached it, or as not reached.
 pub fn rules_that_no_event_met_are_told()
@@ -23,4 +23,11 @@ pub fn rules_that_no_event_met_are_told()
     ensures skipped { unused_by Udev (text (codes "KERNEL==\"d\", OPTIONS=\"static_node=x\"" ∷ codes "KERNEL==\"e\", OPTIONS=\"static_node=x\"" ∷ []))
         (codes "C: add\nP: /d")
         ≡ codes "unused r.rules:2: KERNEL==\"e\" failed 1 of 1\n" }
+{}
+
+/// If `--with` adds a file to those of the folders, `--unused` tells of its rules alone.
+pub fn of_files_that_are_added_alone_rules_are_told()
+    ensures added { unused_with_added (codes "KERNEL==\"a\"") (codes "KERNEL==\"b\"") (codes "C: add\nP: /c")
+        ≡ codes "unused a.rules:1: KERNEL==\"a\" failed 1 of 1\n" }
+    ensures met { unused_with_added (codes "KERNEL==\"c\"") (codes "KERNEL==\"b\"") (codes "C: add\nP: /c") ≡ [] }
 {}

@@ -15,3 +15,4 @@ pub mod Told
 pub mod Nearest
 pub mod Paths
 pub mod Sides
+pub mod OneBlock

@@ -1,6 +1,6 @@
 #!/usr/bin/env python3
-"""Runs the program at terminals: what is written in colors, and what is said before it waits for event blocks; and how far
-devdry-capture says that it is.
+"""Runs the program at terminals: what is written in colors, what names and words may not make a terminal do, and what is said
+before it waits for event blocks; and how far devdry-capture says that it is.
 
 usage: tests/terminals.py PROGRAM
 
@@ -9,6 +9,7 @@ by what was wanted and what was written.
 """
 import os
 import pty
+import re
 import select
 import subprocess
 import sys
@@ -75,7 +76,8 @@ def at_terminals(program, folder, words, places, no_color=None):
     """What a run writes to its standard output and its standard error, of which the named ones are terminals."""
     ends = {place: terminal() for place in places}
     files = {place: ends[place][1] if place in ends else subprocess.PIPE for place in ("stdout", "stderr")}
-    with subprocess.Popen([program, *words.split()], cwd=folder, env=environment(no_color), stdin=subprocess.DEVNULL, **files) as run:
+    words = words.split() if isinstance(words, str) else words
+    with subprocess.Popen([program, *words], cwd=folder, env=environment(no_color), stdin=subprocess.DEVNULL, **files) as run:
         for _, its in ends.values():
             os.close(its)
         wrote = {place: all_of(ours) for place, (ours, _) in ends.items()}
@@ -112,6 +114,42 @@ def check_colors(program, folder):
     for case, words, places, no_color, output, messages in COLORS:
         wrote = at_terminals(program, folder, words, places, no_color)
         differs(f"colors: {case}", (wrote[0] if output is None else output, messages), wrote)
+
+
+# A name of all that a terminal obeys, that changes the order of a line or that ends one, and of the first control bytes.
+OBEYED = "".join(map(chr, [*range(0x80, 0xA0), 0x61C, 0x200E, 0x200F, *range(0x2028, 0x202F), *range(0x2066, 0x206A)]))
+NAME = f"a\x07\x1b]8;;x{OBEYED}\x7f"
+# What may be there of a color, and what may not be there besides.
+COLOR = re.compile(r"\x1b\[(?:1;31|1;33|0)m")
+NOT_SHOWN = re.compile(f"[\\x00-\\x09\\x0b-\\x1f\\x7f{OBEYED}]")
+
+
+def check_obeyed(program, folder):
+    """Whatever names and words are, a terminal obeys nothing of what `human` writes to it but colors, nor of what is said about words."""
+    files = {f"{NAME}.rules": f'FOO=="{OBEYED}"\n', f"{NAME}.hwdb": f"{OBEYED}\n", f"img/etc/systemd/network/{NAME}.link": "[Match\n"}
+    links = [f"{NAME}.none", f"img/etc/udev/rules.d/{NAME}.rules", f"img/usr/lib/udev/hwdb.d/{NAME}.hwdb", f"img/etc/systemd/network/b{NAME}.link"]
+    for path in [*files, *links]:
+        (folder / path).parent.mkdir(parents=True, exist_ok=True)
+    for path, text in files.items():
+        (folder / path).write_text(text)
+    for path in links:
+        (folder / path).symlink_to(f"/{NAME}")
+    (folder / NAME).mkdir()
+    human = "--format=human"
+    for words in [
+            ["verify", human, f"{NAME}.rules"], ["verify", human, f"{NAME}.hwdb"], ["update", human, f"{NAME}.rules"], ["update", human, f"{NAME}.hwdb"],
+            ["verify", human, NAME], ["verify", human, f"{NAME}.none"], ["events", human, f"{NAME}.none"], ["verify", "--all", human, NAME],
+            ["verify", "--all", human, f"{NAME}.none"], ["verify", human, "-r", "img"], ["verify", "--strict", human, "-r", "img"],
+            ["verify", "--links", human, "-r", "img"], ["events", "--udev", "--all", human, "-r", "img"], ["compare", "--all", "--udev", human, "img", NAME],
+            ["compare", human, "img", "img"], ["events", human, "--index", NAME, "good.rules"],
+            ["events", human, f"{NAME}.rules"], ["events", human, "--why", NAME, f"{NAME}.rules"],
+            [NAME], ["explain", NAME], ["verify", f"--{NAME}"], ["verify", f"--format={NAME}"], ["verify", "--ignore", NAME], ["verify", "--with", NAME, "x"],
+            ["verify", "--options", NAME], ["verify", "--options", f"{NAME}.hwdb"], ["verify", "--udev", "--users", NAME, "x"], ["verify", "--udev", "--groups", NAME, "x"],
+            ["compare", NAME], ["query", "m", "--why", NAME], ["verify", "--color", NAME, "x"], ["fmt", f"-{NAME}"]]:
+        _, wrote = at_terminals(program, folder, words, ["stderr"])
+        came = sorted(set(NOT_SHOWN.findall(COLOR.sub("", wrote))))
+        reported(f"a terminal obeys nothing of {words[0][:8]!r} {' '.join(words[1:]).replace(NAME, 'NAME')}",
+                 "" if wrote and not came else f"it got {came} of {wrote!r}")
 
 
 def line_of(file):
@@ -182,6 +220,7 @@ def main(program):
         rules.mkdir(parents=True)
         (rules / "good.rules").write_text('ACTION=="add", TAG+="t"\n')
         check_colors(program, folder)
+        check_obeyed(program, folder)
         check_progress(folder)
         check_waiting(program, folder, "events -r old good.rules", "event add /devices/x\n")
         check_waiting(program, folder, "compare old new", "event add /devices/x\n")

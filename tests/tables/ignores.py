@@ -194,5 +194,5 @@ ROWS = [
     *COMMENTS,
     *(refused(f"an unknown code, {words}", words, code) for words, code in UNKNOWN_CODES),
     refused("a blank before a code", ["verify", "--ignore", "V1, V2", "r.rules"], " V2"),
-    refused("a code with a tab", ["verify", "--ignore", "a\tb", "r.rules"], "a\tb"),
+    refused("a code with a tab", ["verify", "--ignore", "a\tb", "r.rules"], "a b"),
 ]

@@ -10,7 +10,7 @@ use Rattle.devdry_options.specs.declared.files.OptionsFault.TheVariants.{BadLine
 use Rattle.devdry.specs.Options.{DoesByFile, RefusesLine}
 use Rattle.devdry.specs.Ran.{Run}
 use Rattle.devdry.specs.Reading.{IsRefusedToRead}
-use Rattle.devdry.specs.Reporting.{ReportsOptionsFault}
+use Rattle.devdry.specs.Reporting.{ReportsOptionsFault, said_of_words}
 
 -- what comes of a choice comes of the same choice
 pub same_choice : {X : Type 0} (o p : Option X) (A : Type 0) (B : X → Type 0) → o ≡ p → MatchOption o A B → MatchOption p A B
@@ -36,7 +36,7 @@ refused With path bytes (BadLine said) status before now answers reports untouch
     by : (o : Option NumberedLine) → IsSomeAnd o (λ line. said ≡ said_of path line) → MatchOption o (With (words_of bytes) status before now) (λ line. RefusesLine path line status before now)
     by None h = absurd h
     by (Some line) h = record {
-      reports = subst (λ text. ReportsFailure text 2 status before.err now.err) h reports;
+      reports = subst (λ text. ReportsFailure (said_of_words text) 2 status before.err now.err) h reports;
       untouched = untouched;
       unread = unread;
     }

@@ -5,6 +5,7 @@ use Rattle.text_bytes.specs.declared.source_file.SourceFile.{SourceFile}
 use Rattle.engine_ends.specs.Readers.{is_for_people}
 use Rattle.engine_ends.specs.declared.line.Line.{Line}
 use Rattle.engine_ends.specs.Streams.{Streams}
+use Rattle.engine_formats.specs.Masked.{shown_in}
 use Rattle.devdry_files.specs.Faults.{HasPath, IsFaultyWanted}
 use Rattle.devdry_files.specs.Found.{AreWanted}
 use Rattle.devdry_files.specs.Places.{Wants}
@@ -74,10 +75,10 @@ pub record IsFaultOfNew (may : MayAnswer) (old new : Line) (fault : ReadFault) :
 abbrev pub IsFaultOfBoth : MayAnswer → (old new : Line) → ReadFault → Type 0
 IsFaultOfBoth may old new fault = IsFileFault may old fault ⊎ IsFaultOfNew may old new fault
 
--- what is reported is written first, and then the answers to the input are compared
+-- what is reported is written first, as the format shows it, and then the answers to the input are compared
 abbrev pub ComparesAfter : MayAnswer → (old new : Line) → (old_files new_files : List SourceFile) → (index : Option Text) → Report → Run
 ComparesAfter may old new old_files new_files index report =
-    RunsAfter report.lines.items report.least (ComparesFinding may old new old_files new_files index)
+    RunsAfter (shown_in old.format report.lines.items) report.least (ComparesFinding may old new old_files new_files index)
 
 -- For what was read of the two lines this holds, and their answers are compared after what is reported.
 pub record ComparesRead (may : MayAnswer) (Read : List SourceFile → List SourceFile → Option Text → Report → Type 0)

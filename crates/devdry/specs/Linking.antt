@@ -5,6 +5,7 @@ use Rattle.engine_ends.specs.declared.line.Line.{Line}
 use Rattle.engine_ends.specs.declared.line.Request.{Request}
 use Rattle.engine_ends.specs.declared.line.Request.TheVariants as asked
 use Rattle.devdry_files.specs.Inside.{MayInside}
+use Rattle.engine_formats.specs.Masked.{shown_in}
 use Rattle.devdry_folders.specs.declared.reading.Report.{Report}
 use Rattle.devdry_links.specs.Reading.{AreLinksRead}
 use Rattle.devdry_links.specs.declared.reading.LinksRead.{LinksRead}
@@ -13,12 +14,14 @@ use Rattle.devdry.specs.Finding.{does_as_udev}
 use Rattle.devdry.specs.PartialRuns.{RunsAfter}
 use Rattle.devdry.specs.Ran.{MayAnswer, Run, if_so}
 
--- The .link files inside the line's root were read. The line has those that count, and what is reported is about the others.
+-- The .link files inside the line's root were read. The line has those that count, and what is reported is about the others, as
+-- the line's format shows it.
 pub record HasLinks (may : MayAnswer) (named line : Line) (report : Report) : Type 0 where
   pub read : LinksRead
   pub is_read : AreLinksRead (MayInside may named.root.now) named.root.now read
   pub links : line ≡ record named { links = read.links }
-  pub reported : report ≡ read.report
+  pub reported : report.lines.items ≡ shown_in named.format read.report.lines.items
+  pub least : report.least ≡ read.report.least
 
 -- The line stays as it is, and nothing is reported.
 pub record Stays (named line : Line) (report : Report) : Type 0 where

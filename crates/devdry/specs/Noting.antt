@@ -3,6 +3,7 @@ use Rattle.std.specs.Prelude.{◌≡◌, Bool, true, false, if◌then◌else◌,
 use Rattle.text_bytes.specs.Text.{Text}
 use Rattle.text_bytes.specs.declared.source_file.SourceFile.{SourceFile}
 use Rattle.engine_ends.specs.declared.line.Line.{Line}
+use Rattle.engine_formats.specs.Masked.{shown_in}
 use Rattle.devdry_files.specs.Answers.Answer.{Looked}
 use Rattle.devdry_files.specs.Inside.{MayInside}
 use Rattle.devdry_files.specs.declared.look.Look.{Look}
@@ -43,10 +44,10 @@ IsHintAt may line path hint = MatchBool (asks_folder line path) (IsNoteAt may pa
 abbrev pub AreLyingFor : MayAnswer → Line → (paths : List Text) → Type 0
 AreLyingFor may line paths = MatchBool (asks_lying line) (AreLying (MayInside may line.root.now) line.root.now paths) (paths ≡ [])
 
--- the notes are all that there is to tell about the files that were read for the line
+-- the notes are all that there is to tell about the files that were read for the line, as its format shows them
 pub record AreNotesOf (may : MayAnswer) (line : Line) (files : List SourceFile) (notes : Text) : Type 0 where
   pub there : Bool
   pub seen : IsRootSeen may line there
   pub lying : List Text
   pub are_lying : AreLyingFor may line lying
-  pub notes_are : notes ≡ notes_of line files there lying
+  pub notes_are : notes ≡ shown_in line.format (notes_of line files there lying)

@@ -9,6 +9,7 @@ use Rattle.devdry_files.specs.declared.fault.ReadFault.{ReadFault}
 use Rattle.devdry_options.specs.Files.{bad_line, said_of, words_of}
 use Rattle.devdry.specs.Ran.{MayAnswer, Run, either, if_none}
 use Rattle.devdry.specs.Reading.{IsRefusedToRead}
+use Rattle.devdry.specs.Reporting.{said_of_words}
 
 -- the fault is about the file at the path, which the disk may say that it can't read, or memory ran out
 abbrev pub IsFaultAt : MayAnswer → (path : Text) → ReadFault → Type 0
@@ -16,7 +17,7 @@ IsFaultAt may path fault = HasPath (λ p. (p ≡ path) × IsUnread may p) fault
 
 -- What is wrong with a line of the file at the path is reported with status 2; no input is read, and the output stays as it is.
 pub record RefusesLine (path : Text) (line : NumberedLine) (status : ℕ) (before now : Streams) : Type 0 where
-  pub reports : ReportsFailure (said_of path line) 2 status before.err now.err
+  pub reports : ReportsFailure (said_of_words (said_of path line)) 2 status before.err now.err
   pub untouched : now.out ≡ before.out
   pub unread : now.input ≡ before.input
 

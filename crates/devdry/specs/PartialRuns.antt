@@ -6,6 +6,7 @@ use Rattle.engine_ends.specs.declared.line.Line.{Line}
 use Rattle.engine_ends.specs.Delivery.{Delivers}
 use Rattle.engine_ends.specs.Sinks.{BreaksOff, HandsOn, SinkState}
 use Rattle.engine_ends.specs.Streams.{Streams, outputs}
+use Rattle.engine_formats.specs.Masked.{shown_in}
 use Rattle.devdry_folders.specs.Surveys.{IsListed, IsReadSome}
 use Rattle.devdry_folders.specs.declared.reading.Listed.{Listed}
 use Rattle.devdry_folders.specs.declared.reading.ReadSome.{ReadSome}
@@ -38,11 +39,11 @@ RunsAfter reported least Own = either (Proceeds reported least Own) (FailsAtRepo
 abbrev pub RunsNoted : (notes : Text) → Run → Run
 RunsNoted notes Own = if_so (is_empty notes) Own (RunsAfter notes 0 Own)
 
--- What can't be read is reported, what there is to tell about the rest is told, and the line is run over the rest.
+-- What can't be read is reported, as the line's format shows it, what there is to tell about the rest is told, and the line is run over the rest.
 pub record TellsSome (may : MayAnswer) (line : Line) (some : ReadSome) (status : ℕ) (before now : Streams) : Type 0 where
   pub notes : Text
   pub are_notes : AreNotesOf may line some.files.items notes
-  pub runs : RunsAfter some.report.lines.items some.report.least (RunsNoted notes (RunsFinding may line some.files.items some.index)) status before now
+  pub runs : RunsAfter (shown_in line.format some.report.lines.items) some.report.least (RunsNoted notes (RunsFinding may line some.files.items some.index)) status before now
 
 -- What can be read of all that the line asks for was read, and the line is run over that.
 pub record RunsOverSome (may : MayAnswer) (line : Line) (status : ℕ) (before now : Streams) : Type 0 where

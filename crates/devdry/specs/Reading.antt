@@ -4,6 +4,7 @@ use Rattle.text_bytes.specs.Text.{Text}
 use Rattle.text_bytes.specs.declared.source_file.SourceFile.{SourceFile}
 use Rattle.engine_ends.specs.declared.line.Line.{Line}
 use Rattle.engine_ends.specs.Delivery.{IsOutOfMemory}
+use Rattle.engine_ends.specs.Sinks.{SinkState}
 use Rattle.engine_ends.specs.Streams.{Streams, outputs}
 use Rattle.devdry_files.specs.Faults.{HasPath, IsFaultyIndex, IsFaultyWanted}
 use Rattle.devdry_files.specs.Found.{AreWanted, IsIndexWanted}
@@ -12,7 +13,6 @@ use Rattle.devdry_files.specs.declared.fault.ReadFault.{ReadFault}
 use Rattle.devdry_files.specs.declared.fault.ReadFault.TheVariants.{Memory}
 use Rattle.devdry_files.specs.declared.places.Wanted.{Wanted}
 use Rattle.devdry.specs.Ran.{MayAnswer}
-use Rattle.devdry.specs.Reporting.{ReportsReadFault}
 
 -- the files and the bytes of the index are those that the line asks for
 pub record AreReadFor (may : MayAnswer) (line : Line) (files : List SourceFile) (index : Option Text) : Type 0 where
@@ -36,12 +36,12 @@ abbrev pub IsFaultOf : MayAnswer → Line → ReadFault → Type 0
 IsFaultOf may line fault = (fault ≡ Memory)
     ⊎ ((wanted : Wanted) × Wants line wanted × HasPath (IsFaultyRead may wanted) fault)
 
--- What was asked for could not be read, because of a fault for which this holds, and that is reported; no input is
+-- What was asked for could not be read, because of a fault for which this holds, and that is reported like this; no input is
 -- read, and the output stays as it is.
-pub record FailsAt (IsFault : ReadFault → Type 0) (status : ℕ) (before now : Streams) : Type 0 where
+pub record FailsAt (Reports : ReadFault → ℕ → SinkState → SinkState → Type 0) (IsFault : ReadFault → Type 0) (status : ℕ) (before now : Streams) : Type 0 where
   pub fault : ReadFault
   pub is_fault : IsFault fault
-  pub reports : ReportsReadFault fault status before.err now.err
+  pub reports : Reports fault status before.err now.err
   pub unread : now.input ≡ before.input
   pub untouched : now.out ≡ before.out
 

@@ -31,7 +31,7 @@ use Rattle.devdry.specs.Knowing.{IsFaultOfAccounts, KnowsAccounts}
 use Rattle.devdry.specs.Piping.{ReportsInputFault, input_named}
 use Rattle.devdry.specs.Reading.{AreReadFor, FailsAt, IsFaultOf, IsRefusedToRead}
 use Rattle.devdry.specs.Ran.{MayAnswer, Run, either, if_none, if_so}
-use Rattle.devdry.specs.Reporting.{ReportsLineFault}
+use Rattle.devdry.specs.Reporting.{ReportsLineFault, ReportsNamedFault}
 use Rattle.devdry.specs.Terminals.{shown_request}
 use Rattle.devdry.specs.declared.terminals.Terminals.{Terminals}
 
@@ -108,7 +108,7 @@ pub record RunsOverAccounts (from_terminal : Bool) (may : MayAnswer) (named : Re
 
 -- what a request does, given whether the input is a terminal
 abbrev pub RunsKnowing : (from_terminal : Bool) → MayAnswer → Request → Run
-RunsKnowing from_terminal may named = either (RunsOverAccounts from_terminal may named) (FailsAt (IsFaultOfAccounts may named))
+RunsKnowing from_terminal may named = either (RunsOverAccounts from_terminal may named) (FailsAt ReportsNamedFault (IsFaultOfAccounts may named))
 
 -- The input was read whole, and the request is run with a file of this name that has its bytes.
 pub record RunsOverInput (from_terminal : Bool) (may : MayAnswer) (name : Text) (request : Request) (status : ℕ) (before now : Streams) : Type 0 where
@@ -159,7 +159,7 @@ pub record RunsByFile (terminals : Terminals) (may : MayAnswer) (path : Text) (w
 
 -- what words do that name a file of options at the path
 abbrev pub RunsWithFile : Terminals → MayAnswer → (path : Text) → List Text → Run
-RunsWithFile terminals may path words = either (RunsByFile terminals may path words) (FailsAt (IsFaultAt may path))
+RunsWithFile terminals may path words = either (RunsByFile terminals may path words) (FailsAt ReportsNamedFault (IsFaultAt may path))
 
 -- what words do, given which streams are terminals: by themselves, or with those of the file of options that they name;
 -- memory may run out in place of that

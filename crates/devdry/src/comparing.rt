@@ -9,6 +9,7 @@ use crate::running::{Inputs, read_wanted};
 use devdry_files::{Disk, ReadFault, read_all, wanted};
 use devdry_folders::{ReadSome, Report, read_files_that_can, read_what_can, report_on_files};
 use engine_ends::{DeviceFault, Line, Sink, Source, hand_on, report_out_of_memory};
+use engine_formats::shown_in;
 use std::alloc::{AllocError, Global};
 use text_bytes::{Bytes, SourceFile};
 
@@ -109,7 +110,7 @@ fn compare_after<D: Disk, I: Source, W: Sink, E: Sink>(
         index,
         report,
     } = both;
-    match hand_on(error, &report.lines) {
+    match hand_on(error, &shown_in(old.format, report.lines)) {
         Ok(()) => {
             let index = index.as_ref().map(Bytes::as_slice);
             let own = compare_finding(

@@ -17,6 +17,7 @@ use crate::reporting::report_read_fault;
 use devdry_files::{Disk, ReadFault};
 use devdry_folders::{advice_at, push_escaped};
 use engine_ends::{Line, Sink, report_failure, report_out_of_memory};
+use engine_formats::masked;
 use std::alloc::{AllocError, Global};
 
 /// A file or a folder could not be read.
@@ -49,7 +50,7 @@ fn said_at<D: Disk>(
     let mut said = hint_at(alloc, disk, line, path)?;
     let advice = advice_at(alloc, disk, line, path)?;
     push_cannot_read(alloc, &mut said, path, &advice)?;
-    Ok(said)
+    Ok(masked(said))
 }
 
 /// What people are told about a path that one of two lines asks for.
@@ -67,7 +68,7 @@ fn said_of_both<D: Disk>(
     let mut said = Vec::new(alloc);
     let advice = if of_old.is_empty() { &of_new } else { &of_old };
     push_cannot_read(alloc, &mut said, path, advice)?;
-    Ok(said)
+    Ok(masked(said))
 }
 
 /// Tells people which of what a line asks for could not be read.

@@ -4,7 +4,7 @@ ghost use Rattle.devdry.specs.Knowing.{IsFaultOfAccounts, KnowsAccounts};
 ghost use Rattle.devdry.specs.Runs.{RunsKnowing};
 
 use crate::linking::run_linking;
-use crate::reporting::report_read_fault;
+use crate::reporting::report_named_fault;
 use devdry_files::{Disk, ReadFault, read_account_files};
 use engine_ends::{Request, Sink, Source};
 use std::alloc::Global;
@@ -26,7 +26,7 @@ pub(crate) fn run_knowing<D: Disk, I: Source, W: Sink, E: Sink>(
 {
     match read_accounts(alloc, disk, &mut request) {
         Ok(()) => run_linking(alloc, disk, request, from_terminal, input, output, error),
-        Err(fault) => report_read_fault(&fault, error),
+        Err(fault) => report_named_fault(fault, error),
     }
 }
 

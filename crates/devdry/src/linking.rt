@@ -10,6 +10,7 @@ use devdry_files::Disk;
 use devdry_folders::Report;
 use devdry_links::read_link_files;
 use engine_ends::{DeviceFault, Line, Request, Sink, Source, hand_on, report_out_of_memory};
+use engine_formats::shown_in;
 use std::alloc::{AllocError, Global};
 
 /// Reads the `.link` files for a request, reports what can't be read of them, and runs the request by the rest.
@@ -137,5 +138,9 @@ fn take_links<D: Disk>(alloc: Global, disk: &D, line: &mut Line<'_>) -> Result<R
 {
     let read = read_link_files(alloc, disk, line.root)?;
     line.links = read.links;
-    Ok(read.report)
+    let Report { lines, least } = read.report;
+    Ok(Report {
+        lines: shown_in(line.format, lines),
+        least,
+    })
 }

@@ -9,6 +9,7 @@ use devdry_files::{Disk, Look};
 use devdry_folders::rules_lying;
 use devdry_notes::{asks_folder, asks_lying, asks_root, folder_note, notes_of};
 use engine_ends::{DeviceFault, Line, Sink, Source, hand_on};
+use engine_formats::shown_in;
 use std::alloc::{AllocError, Global};
 use text_bytes::{Bytes, SourceFile};
 
@@ -129,7 +130,7 @@ fn lying_for<D: Disk>(alloc: Global, disk: &D, line: &Line<'_>) -> Result<Vec<By
     }
 }
 
-/// What there is to tell about files that were read for a line.
+/// What there is to tell about files that were read for a line, as its format shows it.
 pub(crate) fn notes_on<D: Disk>(
     alloc: Global,
     disk: &D,
@@ -140,5 +141,6 @@ pub(crate) fn notes_on<D: Disk>(
 {
     let there = is_root_seen(alloc, disk, line)?;
     let lying = lying_for(alloc, disk, line)?;
-    notes_of(alloc, line, files, there, &lying)
+    let notes = notes_of(alloc, line, files, there, &lying)?;
+    Ok(shown_in(line.format, notes))
 }

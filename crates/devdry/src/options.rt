@@ -7,7 +7,7 @@ ghost use Rattle.devdry.specs.Ran.{if_none};
 ghost use Rattle.devdry.specs.Reading.{IsRefusedToRead};
 ghost use Rattle.devdry.specs.Runs.{Runs, RunsAlone, RunsWithFile};
 
-use crate::reporting::{report_options_fault, report_read_fault};
+use crate::reporting::{report_named_fault, report_options_fault};
 use crate::running::run_alone;
 use crate::terminals::Terminals;
 use devdry_files::{Disk, ReadFault, fault_at};
@@ -94,7 +94,7 @@ fn run_with_file<D: Disk, I: Source, W: Sink, E: Sink>(
         Ok(bytes) => run_by_file(
             alloc, disk, path, &bytes, words, terminals, input, output, error,
         ),
-        Err(fault) => report_read_fault(&fault, error),
+        Err(fault) => report_named_fault(fault, error),
     }
 }
 
@@ -117,7 +117,7 @@ fn run_by_file<D: Disk, I: Source, W: Sink, E: Sink>(
 {
     match read_options(alloc, path, bytes.as_slice()) {
         Ok(added) => run_with(alloc, disk, words, &added, terminals, input, output, error),
-        Err(fault) => report_options_fault(&fault, error),
+        Err(fault) => report_options_fault(fault, error),
     }
 }
 

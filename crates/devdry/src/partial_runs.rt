@@ -4,6 +4,7 @@
 //! the one that the reading asks for.
 ghost use Rattle.std.specs.Prelude.{◌⊎◌};
 ghost use Rattle.engine_ends.specs.Sources.{SourceState};
+ghost use Rattle.engine_formats.specs.Masked.{shown_in};
 ghost use Rattle.devdry.specs.Finding.{RunsFinding};
 ghost use Rattle.devdry.specs.PartialRuns.{DeliversLines, ListsFiles, RunsAfter, RunsNoted, RunsSome, TellsSome};
 ghost use Rattle.devdry.specs.Reading.{IsRefusedToRead};
@@ -12,6 +13,7 @@ use crate::noting::{notes_on, serve_noted};
 use devdry_files::Disk;
 use devdry_folders::{Listed, ReadSome, list_files, read_what_can};
 use engine_ends::{DeviceFault, Line, Sink, Source, deliver, hand_on, report_out_of_memory};
+use engine_formats::shown_in;
 use std::alloc::Global;
 
 /// Runs a line over what can be read of all that it asks for.
@@ -67,7 +69,7 @@ fn run_over<D: Disk, I: Source, W: Sink, E: Sink>(
     output: &mut W,
     error: &mut E,
 ) -> u8
-    ensures { RunsAfter some.report.lines.items some.report.least
+    ensures { RunsAfter (shown_in line.now.format some.report.lines.items) some.report.least
         (RunsNoted notes.now (RunsFinding (D.may_answer disk.now) line.now some.files.items some.index)) result
         (record { input = I.shown input.old; out = W.shown output.old; err = E.shown error.old })
         (record { input = I.shown input.new; out = W.shown output.new; err = E.shown error.new }) }
@@ -77,7 +79,7 @@ fn run_over<D: Disk, I: Source, W: Sink, E: Sink>(
         index,
         report,
     } = some;
-    match hand_on(error, &report.lines) {
+    match hand_on(error, &shown_in(line.format, report.lines)) {
         Ok(()) => {
             let own = serve_noted(alloc, disk, line, files, index, notes, input, output, error);
             own.max(report.least)

@@ -52,7 +52,7 @@ pub(crate) fn run_alone<D: Disk, I: Source, W: Sink, E: Sink>(
             let request = shown_request(request, terminals.colors);
             run_piped(alloc, disk, request, terminals.input, input, output, error)
         }
-        Err(fault) => report_line_fault(&fault, output, error),
+        Err(fault) => report_line_fault(fault, output, error),
     }
 }
 

@@ -5,6 +5,7 @@ use Rattle.engine_ends.specs.Delivery.{Delivers, IsOutOfMemory, RunOutcome}
 use Rattle.engine_ends.specs.Sinks.{BreaksOff, HandsOn, SinkState}
 use Rattle.engine_ends.specs.Streams.{Outputs}
 use Rattle.engine_ends.specs.declared.line.Line.{Line}
+use Rattle.engine_formats.specs.Masked.{shown_in}
 use Rattle.engine_checks.specs.Links.{links_outcome}
 use Rattle.devdry_files.specs.Answers.{Answer}
 use Rattle.devdry_files.specs.Inside.{MayInside}
@@ -44,11 +45,11 @@ pub record FailsAtReport (reported : Text) (status : ℕ) (before now : Outputs)
 abbrev pub ChecksAfter : Text → ℕ → RunOutcome → ℕ → Outputs → Outputs → Type 0
 ChecksAfter reported least outcome status before now = Checks reported least outcome status before now ⊎ FailsAtReport reported status before now
 
--- Files were read, and they are checked.
+-- Files were read, and they are checked; what is reported on the reading is as the line's format shows it.
 pub record ChecksRead (may : Answer → Type 0) (line : Line) (status : ℕ) (before now : Outputs) : Type 0 where
   pub links : LinksToCheck
   pub are_read : AreRead may line links
-  pub checks : ChecksAfter links.report.lines.items links.report.least (links_outcome line links.files.items) status before now
+  pub checks : ChecksAfter (shown_in line.format links.report.lines.items) links.report.least (links_outcome line links.files.items) status before now
 
 -- the files are read and checked, or memory ran out before
 abbrev pub ChecksLinks : (Answer → Type 0) → Line → ℕ → Outputs → Outputs → Type 0

@@ -1,6 +1,7 @@
 //! The run of `verify --links`.
 ghost use Rattle.std.specs.Prelude.{IfOk};
 ghost use Rattle.devdry_links.specs.Running.{AreNamed, AreRead, ChecksAfter, ChecksLinks};
+ghost use Rattle.engine_formats.specs.Masked.{shown_in};
 ghost use Rattle.engine_checks.specs.Links.{links_outcome};
 
 use crate::checking::{LinksToCheck, read_links_to_check};
@@ -8,6 +9,7 @@ use devdry_files::Disk;
 use devdry_folders::read_files_that_can;
 use engine_checks::serve_links;
 use engine_ends::{DeviceFault, Line, Sink, hand_on, report_out_of_memory};
+use engine_formats::shown_in;
 use std::alloc::{AllocError, Global};
 
 /// Reads the files that a line names.
@@ -36,18 +38,19 @@ fn read<D: Disk>(alloc: Global, disk: &D, line: &Line<'_>) -> Result<LinksToChec
 fn check_read<W: Sink, E: Sink>(
     alloc: Global,
     line: &Line<'_>,
-    links: &LinksToCheck,
+    links: LinksToCheck,
     output: &mut W,
     error: &mut E,
 ) -> u8
-    ensures { ChecksAfter links.now.report.lines.items links.now.report.least (links_outcome line.now links.now.files.items) result
+    ensures { ChecksAfter (shown_in line.now.format links.report.lines.items) links.report.least (links_outcome line.now links.files.items) result
         (record { out = W.shown output.old; err = E.shown error.old })
         (record { out = W.shown output.new; err = E.shown error.new }) }
 {
-    match hand_on(error, &links.report.lines) {
+    let LinksToCheck { files, report } = links;
+    match hand_on(error, &shown_in(line.format, report.lines)) {
         Ok(()) => {
-            let own = serve_links(alloc, line, &links.files, output, error);
-            own.max(links.report.least)
+            let own = serve_links(alloc, line, &files, output, error);
+            own.max(report.least)
         }
         Err(DeviceFault) => 3,
     }
@@ -70,7 +73,7 @@ pub fn run_link_checks<D: Disk, W: Sink, E: Sink>(
         (record { out = W.shown output.new; err = E.shown error.new }) }
 {
     match read(alloc, disk, line) {
-        Ok(links) => check_read(alloc, line, &links, output, error),
+        Ok(links) => check_read(alloc, line, links, output, error),
         Err(_) => report_out_of_memory(error),
     }
 }

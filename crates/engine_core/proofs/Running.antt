@@ -8,11 +8,13 @@ use Rattle.builtin_knowledge.specs.Knowledge.{FilesFound, Known}
 use Rattle.rule_types.specs.Rules.{Rule}
 use Rattle.device_core.specs.Values.{EventValue}
 use Rattle.engine_ends.specs.Readers.{is_for_people}
+use Rattle.engine_ends.specs.declared.line.Format.{Format}
 use Rattle.engine_ends.specs.declared.line.Line.{Line}
 use Rattle.engine_ends.specs.Streams.{Streams, outputs}
 use Rattle.engine_ends.specs.Delivery.{RunOutcome, Delivers, ReportsFailure, ReportsFaults, out_of_memory}
 use Rattle.index_reading.specs.declared.fault.IndexFault.{IndexFault}
 use Rattle.index_reading.specs.Contents.{Contents}
+use Rattle.engine_formats.specs.Masked.{shown_in}
 use Rattle.engine_lookups.specs.Databases.{LooksUpBy, lookups_by}
 use Rattle.engine_reports.specs.Databases.{DatabaseValue, database}
 use Rattle.engine_reports.specs.Openings.{OpeningValue}
@@ -39,14 +41,14 @@ use Rattle.engine_core.specs.Reported.{ReportedValue, reported_by}
 
 -- the outcome of the answers of an opening to an input
 abbrev answered : Line → FilesFound → OpeningValue → Text → RunOutcome
-answered line found opening = input_outcome (is_for_people line.format) opening.messages (answer_with line found opening)
+answered line found opening = input_outcome (is_for_people line.format) (shown_in line.format opening.messages) (answer_with line found opening)
 
 opening_serves : (line : Line) (found : FilesFound) (opening : OpeningValue) (status : ℕ) (before now : Streams) → AnswersBy line found opening status before now → Serves (outcome_by line found (Ok opening)) status before now
 opening_serves line found opening status before now r = by line.unused refl
   where
     by : (v : Bool) → line.unused ≡ v → Serves (λ input. cond v (with_said (unused_of line found opening input) (answered line found opening input)) (answered line found opening input)) status before now
-    by true e = said_serve (is_for_people line.format) opening.messages (answer_with line found opening) (unused_of line found opening) status before now (r.says e)
-    by false e = answers_serve (is_for_people line.format) opening.messages (answer_with line found opening) status before now (r.answers e)
+    by true e = said_serve (is_for_people line.format) (shown_in line.format opening.messages) (answer_with line found opening) (unused_of line found opening) status before now (r.says e)
+    by false e = answers_serve (is_for_people line.format) (shown_in line.format opening.messages) (answer_with line found opening) status before now (r.answers e)
 
 runs_serve : (line : Line) (found : FilesFound) (opened : Result OpeningValue RunOutcome) (status : ℕ) (before now : Streams) → RunsBy line found opened status before now → Serves (outcome_by line found opened) status before now
 runs_serve line found (Ok opening) status before now r = opening_serves line found opening status before now r
@@ -83,19 +85,19 @@ refused_runs line found TooManyEntries opened status before now is delivers faul
 refused_runs line found TooManyRules opened status before now is delivers faults memory unread = rw is (record { delivers = delivers too_many_rules refl; faults = faults; unread = unread })
 refused_runs line found (Index fault) opened status before now is delivers faults memory unread = rw is (record { delivers = delivers (refused_index fault) refl; faults = faults; unread = unread })
 refused_runs line found Memory (Ok opening) status before now is delivers faults memory unread =
-    let stops : StopsBefore opening.messages status before now = record { unread = unread; unanswered = (memory refl).1; reports = inr (memory refl).0 } in
+    let stops : StopsBefore (shown_in line.format opening.messages) status before now = record { unread = unread; unanswered = (memory refl).1; reports = inr (memory refl).0 } in
     record { says = λ e. inl stops; answers = λ e. inl stops }
 refused_runs line found Memory (Err said) status before now is delivers faults memory unread = record { delivers = delivers said tt; faults = faults; unread = unread }
 
 -- what refuses an opening is said whatever is asked for
-pub asked_refused : (refusal : Refusal) (why : List Text) (opened : Result OpeningValue RunOutcome) → IsRefused refusal opened → IsRefused refusal (asked_of why opened)
-asked_refused TooManyEntries why opened is = ap (asked_of why) is
-asked_refused TooManyRules why opened is = ap (asked_of why) is
-asked_refused (Index fault) why opened is = ap (asked_of why) is
-asked_refused Memory why opened is = tt
+pub asked_refused : (refusal : Refusal) (format : Format) (why : List Text) (opened : Result OpeningValue RunOutcome) → IsRefused refusal opened → IsRefused refusal (asked_of format why opened)
+asked_refused TooManyEntries format why opened is = ap (asked_of format why) is
+asked_refused TooManyRules format why opened is = ap (asked_of format why) is
+asked_refused (Index fault) format why opened is = ap (asked_of format why) is
+asked_refused Memory format why opened is = tt
 
 -- events that are answered by what the line asks for are answered as it asks, and what is said is what it asks for
-answered_runs : (line : Line) (found : FilesFound) (opening : OpeningValue) (messages : Text) (answer : EventValue → Text) (says : Text → Text) (status : ℕ) (before now : Streams) → messages ≡ opening.messages → answer ≡ answer_by_line line found opening → says ≡ unused_of line found opening
+answered_runs : (line : Line) (found : FilesFound) (opening : OpeningValue) (messages : Text) (answer : EventValue → Text) (says : Text → Text) (status : ℕ) (before now : Streams) → messages ≡ shown_in line.format opening.messages → answer ≡ answer_by_line line found opening → says ≡ unused_of line found opening
     → (line.unused ≡ true → SaysAll (is_for_people line.format) messages (answers_as line.profile answer) says status before now)
     → (line.unused ≡ false → AnswersAll (is_for_people line.format) messages (answers_as line.profile answer) status before now) → AnswersBy line found opening status before now
 answered_runs line found opening messages answer says status before now m a u s h = record {
@@ -111,7 +113,7 @@ abbrev said_by : Line → List Rule → Held → Text → Text
 said_by line rules held text = unused_lines (added_of line) rules (known_by held) (events_of line.profile text)
 
 -- a line that asks for questions is answered with these
-pub asked_runs : (line : Line) (found : FilesFound) (opening : OpeningValue) (messages : Text) (tables : List Rule × Held) (rules : List Rule) (held : Held) (status : ℕ) (before now : Streams) → line.questions ≡ true → messages ≡ opening.messages
+pub asked_runs : (line : Line) (found : FilesFound) (opening : OpeningValue) (messages : Text) (tables : List Rule × Held) (rules : List Rule) (held : Held) (status : ℕ) (before now : Streams) → line.questions ≡ true → messages ≡ shown_in line.format opening.messages
     → tables ≡ (opening.rules, record { links = line.links.items; files = found; entries = opening.entries }) → rules ≡ tables.0 → held ≡ tables.1
     → (line.unused ≡ true → SaysAll (is_for_people line.format) messages (answers_as line.profile (question_answer tables.0 (known_by tables.1))) (said_by line rules held) status before now)
     → (line.unused ≡ false → AnswersAll (is_for_people line.format) messages (answers_as line.profile (question_answer tables.0 (known_by tables.1))) status before now)
@@ -123,7 +125,7 @@ asked_runs line found opening messages tables rules held status before now q m t
     (ap (λ x. said_by line x held) r ∙ ap (said_by line tables.0) k ∙ ap (λ (t : List Rule × Held). said_by line t.0 t.1) t) s h
 
 -- a line that asks for more is answered with that
-pub reported_runs : (line : Line) (found : FilesFound) (opening : OpeningValue) (messages : Text) (tables : ReportedValue × Held) (rules : List Rule) (held : Held) (status : ℕ) (before now : Streams) → line.questions ≡ false → asks_more line ≡ true → messages ≡ opening.messages
+pub reported_runs : (line : Line) (found : FilesFound) (opening : OpeningValue) (messages : Text) (tables : ReportedValue × Held) (rules : List Rule) (held : Held) (status : ℕ) (before now : Streams) → line.questions ≡ false → asks_more line ≡ true → messages ≡ shown_in line.format opening.messages
     → tables ≡ (reported_for line opening, record { links = line.links.items; files = found; entries = opening.entries }) → rules ≡ tables.0.rules → held ≡ tables.1
     → (line.unused ≡ true → SaysAll (is_for_people line.format) messages (answers_as line.profile (reported_by tables.0 (known_by tables.1))) (said_by line rules held) status before now)
     → (line.unused ≡ false → AnswersAll (is_for_people line.format) messages (answers_as line.profile (reported_by tables.0 (known_by tables.1))) status before now)
@@ -139,7 +141,7 @@ reported_runs line found opening messages tables rules held status before now q 
     (ap (λ x. said_by line x held) r ∙ ap (said_by line tables.0.rules) k ∙ ap (λ (t : ReportedValue × Held). said_by line t.0.rules t.1) t) s h
 
 -- any other line is answered alone
-pub alone_runs : (line : Line) (found : FilesFound) (opening : OpeningValue) (messages : Text) (tables : List Rule × Held) (rules : List Rule) (held : Held) (status : ℕ) (before now : Streams) → line.questions ≡ false → asks_more line ≡ false → messages ≡ opening.messages
+pub alone_runs : (line : Line) (found : FilesFound) (opening : OpeningValue) (messages : Text) (tables : List Rule × Held) (rules : List Rule) (held : Held) (status : ℕ) (before now : Streams) → line.questions ≡ false → asks_more line ≡ false → messages ≡ shown_in line.format opening.messages
     → tables ≡ (opening.rules, record { links = line.links.items; files = found; entries = opening.entries }) → rules ≡ tables.0 → held ≡ tables.1
     → (line.unused ≡ true → SaysAll (is_for_people line.format) messages (answers_as line.profile (answer_by tables.0 (known_by tables.1))) (said_by line rules held) status before now)
     → (line.unused ≡ false → AnswersAll (is_for_people line.format) messages (answers_as line.profile (answer_by tables.0 (known_by tables.1))) status before now)

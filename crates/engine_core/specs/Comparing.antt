@@ -14,6 +14,7 @@ use Rattle.engine_ends.specs.Readers.{is_for_people}
 use Rattle.engine_ends.specs.declared.line.Line.{Line}
 use Rattle.engine_ends.specs.Delivery.{RunOutcome}
 use Rattle.engine_ends.specs.Streams.{Streams}
+use Rattle.engine_formats.specs.Masked.{shown_in}
 use Rattle.engine_reports.specs.Indexes.{Opens}
 use Rattle.engine_reports.specs.Openings.{OpeningValue, opening}
 use Rattle.engine_sessions.specs.Findings.{FindsAll, found}
@@ -42,12 +43,12 @@ abbrev pub both_messages : Text → Text → Text
 both_messages old new = marked_text (codes "[OLD] ") old ++ marked_text (codes "[NEW] ") new
 
 -- The outcome of a comparison over an input, by the two lines, what was found and the opening of both sides: rules are
--- evaluated by the old line's profile, and differences and faulty blocks are in its format. It is the messages about the old and then about
+-- evaluated by the old line's profile, and messages, differences and faulty blocks are in its format. It is the messages about the old and then about
 -- the new rules, and for each block of the input what appears and disappears, which is a finding. If one side can't be
 -- opened, what is said about that, about the old one first.
 abbrev pub compare_outcome : (old_line new_line : Line) → (old_found new_found : FilesFound) → (old new : Result OpeningValue RunOutcome) → Text → RunOutcome
 compare_outcome old_line new_line old_found new_found (Ok old) (Ok new) input =
-    found (input_outcome (is_for_people old_line.format) (both_messages old.messages new.messages)
+    found (input_outcome (is_for_people old_line.format) (shown_in old_line.format (both_messages old.messages new.messages))
     (answers_as old_line.profile (differences_by old_line new_line old_found new_found old new)) input)
 compare_outcome old_line new_line old_found new_found (Ok old) (Err said) input = said
 compare_outcome old_line new_line old_found new_found (Err said) new input = said
@@ -56,7 +57,7 @@ compare_outcome old_line new_line old_found new_found (Err said) new input = sai
 abbrev pub ComparesBy : (old_line new_line : Line) → (old_found new_found : FilesFound) → (old new : Result OpeningValue RunOutcome)
     → ℕ → Streams → Streams → Type 0
 ComparesBy old_line new_line old_found new_found (Ok old) (Ok new) status before now =
-    FindsAll (is_for_people old_line.format) (both_messages old.messages new.messages)
+    FindsAll (is_for_people old_line.format) (shown_in old_line.format (both_messages old.messages new.messages))
     (answers_as old_line.profile (differences_by old_line new_line old_found new_found old new)) status before now
 ComparesBy old_line new_line old_found new_found (Ok old) (Err said) status before now = Reports said status before now
 ComparesBy old_line new_line old_found new_found (Err said) new status before now = Reports said status before now

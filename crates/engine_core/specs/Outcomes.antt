@@ -22,6 +22,7 @@ use Rattle.builtin_core.specs.Builtins.{known_by}
 use Rattle.builtin_knowledge.specs.Knowledge.{FilesFound, Known}
 use Rattle.engine_answers.specs.Answers.{answer_by}
 use Rattle.engine_courses.specs.Asked.{unknown}
+use Rattle.engine_formats.specs.Masked.{shown_in}
 use Rattle.engine_core.specs.Checking.{update_said, verify_said}
 use Rattle.engine_core.specs.Mending.{mend_said}
 use Rattle.engine_core.specs.Reported.{ReportedValue, reported_by}
@@ -79,15 +80,15 @@ added_of line = map (λ f. f.now) line.added.items
 abbrev pub unused_of : Line → FilesFound → OpeningValue → Text → Text
 unused_of line found opening input = unused_lines (added_of line) opening.rules (known_for line found opening) (events_of line.profile input)
 
--- an opening, or what is said instead if the line asks for a rule that is not there
-abbrev pub opening_unless : Option Text → OpeningValue → Result OpeningValue RunOutcome
-opening_unless None opening = Ok opening
-opening_unless (Some line) opening = Err (usage_error opening.messages line)
+-- an opening, or what is said instead, as a format shows it, if the line asks for a rule that is not there
+abbrev pub opening_unless : Format → Option Text → OpeningValue → Result OpeningValue RunOutcome
+opening_unless format None opening = Ok opening
+opening_unless format (Some line) opening = Err (usage_error (shown_in format opening.messages) (shown_in format line))
 
 -- the same for the outcome of opening the files
-abbrev pub asked_of : List Text → Result OpeningValue RunOutcome → Result OpeningValue RunOutcome
-asked_of why (Ok opening) = opening_unless (unknown why opening.about_rules opening.rules) opening
-asked_of why (Err said) = Err said
+abbrev pub asked_of : Format → List Text → Result OpeningValue RunOutcome → Result OpeningValue RunOutcome
+asked_of format why (Ok opening) = opening_unless format (unknown why opening.about_rules opening.rules) opening
+asked_of format why (Err said) = Err said
 
 -- A command before it looks at its input: for `events` what comes before its first answer, or what is said instead;
 -- for any other command what it says. Only `query` and `events` look at an index.
@@ -96,13 +97,13 @@ before_input Query line files opened = Err (query_over line files opened)
 before_input Update line files opened = Err (update_said line files)
 before_input Verify line files opened = Err (verify_said line files)
 before_input Mend line files opened = Err (mend_said line files)
-before_input Events line files opened = asked_of (why_of line) (opening line files opened)
+before_input Events line files opened = asked_of line.format (why_of line) (opening line files opened)
 
--- the outcome of a run over an input: the messages of its opening and the answers to the blocks of the input, with the
+-- the outcome of a run over an input: the messages of its opening, as the line's format shows them, and the answers to the blocks of the input, with the
 -- rules that are unused after them if the line asks for that; or what is said without looking at the input
 abbrev pub outcome_by : Line → FilesFound → Result OpeningValue RunOutcome → Text → RunOutcome
 outcome_by line found (Ok opening) input =
-    let answered = input_outcome (is_for_people line.format) opening.messages (answer_with line found opening) input in
+    let answered = input_outcome (is_for_people line.format) (shown_in line.format opening.messages) (answer_with line found opening) input in
     if line.unused then with_said (unused_of line found opening input) answered else answered
 outcome_by line found (Err said) input = said
 

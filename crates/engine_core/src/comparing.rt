@@ -6,6 +6,7 @@ ghost use Rattle.engine_reports.specs.Indexes.{entries_in};
 ghost use Rattle.engine_reports.specs.Openings.{OpeningValue, opening};
 ghost use Rattle.engine_reports.specs.Reports.{IsRefused, shown_rules};
 ghost use Rattle.engine_ends.specs.Readers.{is_for_people};
+ghost use Rattle.engine_formats.specs.Masked.{shown_in};
 ghost use Rattle.engine_sessions.specs.Findings.{FindsAll};
 ghost use Rattle.engine_sessions.specs.Sessions.{answers_as};
 
@@ -16,6 +17,7 @@ use builtin_core::Builtins;
 use builtin_knowledge::RootFiles;
 use engine_compare::{Compared, marked};
 use engine_ends::{Line, Sink, Source, report_out_of_memory};
+use engine_formats::shown_in;
 use engine_reports::{
     Refusal, RulesRead, deliver_refusal, open_index, open_rules, open_with_database,
 };
@@ -151,7 +153,7 @@ fn compare_rules<L: Lookup + Drop, M: Lookup + Drop, R: Source, W: Sink, E: Sink
     output: &mut W,
     error: &mut E,
 ) -> u8
-    ensures { FindsAll (is_for_people old_line.now.format) (both_messages old.messages.items new.messages.items)
+    ensures { FindsAll (is_for_people old_line.now.format) (shown_in old_line.now.format (both_messages old.messages.items new.messages.items))
         (answers_as old_line.now.profile (differences_by old_line.now new_line.now old_found.now new_found.now (shown_rules old (L.entries old_lookup))
         (shown_rules new (M.entries new_lookup)))) result
         (record { input = R.shown input.old; out = W.shown output.old; err = E.shown error.old })
@@ -169,7 +171,7 @@ fn compare_rules<L: Lookup + Drop, M: Lookup + Drop, R: Source, W: Sink, E: Sink
             alloc,
             old_line.profile,
             for_people,
-            &messages,
+            &shown_in(old_line.format, messages),
             &tables,
             input,
             output,

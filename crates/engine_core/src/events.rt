@@ -19,6 +19,7 @@ use builtin_knowledge::{Knowledge, RootFiles};
 use engine_answers::Tables;
 use engine_courses::first_unknown;
 use engine_ends::{Format, Line, Sink, Source, report_out_of_memory};
+use engine_formats::shown_in;
 use engine_reports::{
     Refusal, RulesRead, deliver_refusal, deliver_usage_error, open_rules, open_with_database,
 };
@@ -43,7 +44,7 @@ pub(crate) fn serve_events<R: Source, W: Sink, E: Sink>(
     output: &mut W,
     error: &mut E,
 ) -> u8
-    ensures { RunsBy line.now found.now (asked_of (why_of line.now) (opening line.now files.items opened.entry)) result
+    ensures { RunsBy line.now found.now (asked_of line.now.format (why_of line.now) (opening line.now files.items opened.entry)) result
         (record { input = R.shown input.old; out = W.shown output.old; err = E.shown error.old })
         (record { input = R.shown input.new; out = W.shown output.new; err = E.shown error.new }) }
 {
@@ -72,7 +73,7 @@ fn answer_over<L: Lookup + Drop, R: Source, W: Sink, E: Sink>(
     error: &mut E,
 ) -> u8
     ensures { (opened : Result OpeningValue RunOutcome) → IfOk read (λ r. opened ≡ Ok (shown_rules r.0 (L.entries r.1)))
-        → IfErr read (λ e. IsRefused e opened) → RunsBy line.now found.now (asked_of (why_of line.now) opened) result
+        → IfErr read (λ e. IsRefused e opened) → RunsBy line.now found.now (asked_of line.now.format (why_of line.now) opened) result
         (record { input = R.shown input.old; out = W.shown output.old; err = E.shown error.old })
         (record { input = R.shown input.new; out = W.shown output.new; err = E.shown error.new }) }
 {
@@ -95,7 +96,7 @@ fn answer_asked<L: Lookup + Drop, R: Source, W: Sink, E: Sink>(
     output: &mut W,
     error: &mut E,
 ) -> u8
-    ensures { RunsBy line.now found.now (asked_of (why_of line.now) (Ok (shown_rules read (L.entries lookup)))) result
+    ensures { RunsBy line.now found.now (asked_of line.now.format (why_of line.now) (Ok (shown_rules read (L.entries lookup)))) result
         (record { input = R.shown input.old; out = W.shown output.old; err = E.shown error.old })
         (record { input = R.shown input.new; out = W.shown output.new; err = E.shown error.new }) }
 {
@@ -107,7 +108,9 @@ fn answer_asked<L: Lookup + Drop, R: Source, W: Sink, E: Sink>(
     ) {
         Ok(None) => answer_by_rules(alloc, line, found, read, lookup, input, output, error),
         Ok(Some(unknown)) => {
-            deliver_usage_error(&read.messages, unknown.as_slice(), output, error)
+            let messages = shown_in(line.format, read.messages);
+            let unknown = shown_in(line.format, unknown.into_vec());
+            deliver_usage_error(&messages, &unknown, output, error)
         }
         Err(_) => deliver_refusal(Refusal::Memory, output, error),
     }
@@ -153,6 +156,7 @@ fn ask_by_rules<L: Lookup + Drop, R: Source, W: Sink, E: Sink>(
         (record { input = R.shown input.new; out = W.shown output.new; err = E.shown error.new }) }
 {
     let RulesRead { messages, rules } = read;
+    let messages = shown_in(line.format, messages);
     let tables = AskedTables::new(
         rules.into_rules(),
         Builtins::new(lookup, &line.links, found),
@@ -233,6 +237,7 @@ fn report_by_rules<L: Lookup + Drop, R: Source, W: Sink, E: Sink>(
         (record { input = R.shown input.new; out = W.shown output.new; err = E.shown error.new }) }
 {
     let RulesRead { messages, rules } = read;
+    let messages = shown_in(line.format, messages);
     if asks_more(line) {
         let builtins = Builtins::new(lookup, &line.links, found);
         let json = is_json(line.format);

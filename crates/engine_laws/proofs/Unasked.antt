@@ -4,6 +4,7 @@ use Rattle.text_bytes.specs.Text.{Text}
 use Rattle.device_core.specs.Values.{EventValue}
 use Rattle.engine_courses.specs.Asked.{unknown}
 use Rattle.builtin_knowledge.specs.Knowledge.{FilesFound}
+use Rattle.engine_ends.specs.declared.line.Format.{Format}
 use Rattle.engine_ends.specs.declared.line.Line.{Line}
 use Rattle.engine_ends.specs.Delivery.{RunOutcome}
 use Rattle.engine_reports.specs.Openings.{OpeningValue}
@@ -20,13 +21,13 @@ none_asked f (x ∷ l) e = cc
 pub nothing_asked : (line : Line) → vec_len line.why ≡ 0 → why_of line ≡ []
 nothing_asked line e = let same : vec_len line.why ≡ length line.why.items = search rules in none_asked (λ w. w.now) line.why.items (sym same ∙ e)
 
-opened_as_it_is : (opened : Result OpeningValue RunOutcome) → asked_of [] opened ≡ opened
+opened_as_it_is : (format : Format) (opened : Result OpeningValue RunOutcome) → asked_of format [] opened ≡ opened
 unfolding unknown
-opened_as_it_is (Ok opened) = refl
-opened_as_it_is (Err said) = refl
+opened_as_it_is format (Ok opened) = refl
+opened_as_it_is format (Err said) = refl
 
-pub asked_as_it_is : (line : Line) (opened : Result OpeningValue RunOutcome) → vec_len line.why ≡ 0 → asked_of (why_of line) opened ≡ opened
-asked_as_it_is line opened e = ap (λ why. asked_of why opened) (nothing_asked line e) ∙ opened_as_it_is opened
+pub asked_as_it_is : (line : Line) (opened : Result OpeningValue RunOutcome) → vec_len line.why ≡ 0 → asked_of line.format (why_of line) opened ≡ opened
+asked_as_it_is line opened e = ap (λ why. asked_of line.format why opened) (nothing_asked line e) ∙ opened_as_it_is line.format opened
 
 asks_no_more : (line : Line) → line.sources ≡ false → vec_len line.why ≡ 0 → is_json line.format ≡ false → asks_more line ≡ false
 asks_no_more line a b f = ap (λ (s : Bool). (s || not (vec_len line.why == 0)) || is_json line.format) a ∙ ap (λ (n : ℕ). not (n == 0) || is_json line.format) b ∙ f

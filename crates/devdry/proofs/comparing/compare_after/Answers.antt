@@ -1,6 +1,7 @@
 use Rattle.std.proofs.Common.{◌≡◌, inl, rules, subst}
 use Rattle.std.specs.Option.{option_map}
 use Rattle.engine_ends.specs.Sinks.{HandsOn}
+use Rattle.engine_formats.specs.Masked.{shown_in}
 use Rattle.devdry.specs.Finding.{ComparesFinding}
 use Rattle.devdry.proofs.comparing.compare_after.Goals as goal
 
@@ -8,7 +9,7 @@ pub returns-in-Ok : goal.returns-in-Ok
 returns-in-Ok g c =
     let both = c.args.both in
     let borrowed : option_map (λ bytes. bytes.now) c.map-index.result ≡ both.index = search rules in
-    let said : c.deref.result.now ≡ both.report.lines.items = search rules in
+    let said : c.deref.result.now ≡ shown_in c.args.old.now.format both.report.lines.items = search rules in
     inl (record {
       err = g.E.Sink.shown c.hand_on.new.sink;
       hands_on = subst (λ text. HandsOn (g.E.Sink.shown c.args.error.now) text (g.E.Sink.shown c.hand_on.new.sink)) said c.in-Ok.ensures.whole;

@@ -4,6 +4,7 @@ use Rattle.engine_ends.specs.Readers.{is_for_people}
 use Rattle.engine_ends.specs.Streams.{Streams}
 use Rattle.devdry.specs.Failing.{IsSaidAt, TellsPeople}
 use Rattle.devdry.specs.Reading.{FailsAt, IsFaultOf}
+use Rattle.devdry.specs.Reporting.{ReportsReadFault}
 use Rattle.devdry.proofs.failing.fail_wanted.Goals as goal
 
 pub returns-then-is_for_people : goal.returns-then-is_for_people
@@ -11,7 +12,7 @@ returns-then-is_for_people g c input out =
     let before : Streams = record { input = input; out = out; err = g.E.Sink.shown c.args.error.now } in
     let now : Streams = record { input = input; out = out; err = g.E.Sink.shown c.tell_of_wanted.new.error } in
     let is : is_for_people c.args.line.now.format ≡ true = search rules in
-    subst (λ b. MatchBool b (TellsPeople (IsSaidAt (g.D.Disk.may_answer c.args.disk.now) c.args.line.now) (IsFaultOf (g.D.Disk.may_answer c.args.disk.now) c.args.line.now) c.tell_of_wanted.result before now) (FailsAt (IsFaultOf (g.D.Disk.may_answer c.args.disk.now) c.args.line.now) c.tell_of_wanted.result before now)) (sym is)
+    subst (λ b. MatchBool b (TellsPeople (IsSaidAt (g.D.Disk.may_answer c.args.disk.now) c.args.line.now) (IsFaultOf (g.D.Disk.may_answer c.args.disk.now) c.args.line.now) c.tell_of_wanted.result before now) (FailsAt ReportsReadFault (IsFaultOf (g.D.Disk.may_answer c.args.disk.now) c.args.line.now) c.tell_of_wanted.result before now)) (sym is)
     (c.tell_of_wanted.ensures input out)
 
 pub returns-else-is_for_people : goal.returns-else-is_for_people
@@ -19,5 +20,5 @@ returns-else-is_for_people g c input out =
     let before : Streams = record { input = input; out = out; err = g.E.Sink.shown c.args.error.now } in
     let now : Streams = record { input = input; out = out; err = g.E.Sink.shown c.report_read_fault.new.error } in
     let is : is_for_people c.args.line.now.format ≡ false = search rules in
-    subst (λ b. MatchBool b (TellsPeople (IsSaidAt (g.D.Disk.may_answer c.args.disk.now) c.args.line.now) (IsFaultOf (g.D.Disk.may_answer c.args.disk.now) c.args.line.now) c.report_read_fault.result before now) (FailsAt (IsFaultOf (g.D.Disk.may_answer c.args.disk.now) c.args.line.now) c.report_read_fault.result before now)) (sym is)
+    subst (λ b. MatchBool b (TellsPeople (IsSaidAt (g.D.Disk.may_answer c.args.disk.now) c.args.line.now) (IsFaultOf (g.D.Disk.may_answer c.args.disk.now) c.args.line.now) c.report_read_fault.result before now) (FailsAt ReportsReadFault (IsFaultOf (g.D.Disk.may_answer c.args.disk.now) c.args.line.now) c.report_read_fault.result before now)) (sym is)
     (record { fault = c.args.fault.now; is_fault = c.requires; reports = c.report_read_fault.ensures; unread = refl; untouched = refl })

@@ -8,4 +8,4 @@ pub returns-in-Err : goal.returns-in-Err
 returns-in-Err g c opened is_opened is_refused =
     let refused = subst (λ t. IfErr t (λ e. IsRefused e opened)) c.in-Err.is is_refused in
     let why = why_of c.args.line.now in
-    refused_runs c.args.line.now c.args.found.now c.in-Err.refusal _ _ _ _ (asked_refused c.in-Err.refusal why opened refused) c.deliver_refusal.ensures.delivers c.deliver_refusal.ensures.faults c.deliver_refusal.ensures.memory refl
+    refused_runs c.args.line.now c.args.found.now c.in-Err.refusal _ _ _ _ (asked_refused c.in-Err.refusal c.args.line.now.format why opened refused) c.deliver_refusal.ensures.delivers c.deliver_refusal.ensures.faults c.deliver_refusal.ensures.memory refl

@@ -80,6 +80,12 @@ def many_messages(form, count):
     return ["verify", f"--format={form}", "r.rules"], {"r.rules": (",".join(['TAG+="b"'] * count) + "\n") * 40}, ""
 
 
+def with_accounts(count):
+    """Rules that name as many users and groups as there are."""
+    files = {"users": each("u#:x:#:#::/:/bin/sh\n", count), "groups": each("g#:x:#:\n", count)}
+    return ["verify", "--udev", "--users", "users", "--groups", "groups", "r.rules"], {"r.rules": each('OWNER="u#", GROUP="g#"\n', count), **files}, ""
+
+
 def checked_links(text):
     return ["verify", "--links", "a.link"], {"a.link": text}, ""
 
@@ -176,6 +182,7 @@ RULES = [
     Case("bytes of a line", 1_000_000, lambda n: verify('"' * n)),
     Case("messages", 10_000, lambda n: verify("x\n" * n)),
     Case("notes", 10_000, lambda n: events('TEST=="/x"\n' * n)),
+    Case("users and groups, and rules that name each", 2_000, with_accounts),
     Case("tests of 8,000 tags", 300, lambda n: events('TAGS=="x"\n' * n, full("G: #\n"))),
     Case("patterns over 4,000 properties", 30, lambda n: events('IMPORT{parent}="*x|*y|*z"\n' * n, full("E: #=\n").replace(
         "P: /a\n", "P: /a/b\nU: u\nP: /a\n"))),

@@ -8,7 +8,7 @@ ghost use Rattle.rule_remarks.specs.AccountLines.{accounts_of};
 
 use crate::reported::Asked;
 use engine_ends::{AccountFile, Line};
-use rule_pairs::{Account, AccountKind, Accounts};
+use rule_pairs::{AccountKind, AccountList, Accounts};
 use rule_remarks::read_accounts;
 use std::alloc::{AllocError, Global};
 use text_tables::Texts;
@@ -39,13 +39,14 @@ fn accounts_in(
     alloc: Global,
     kind: AccountKind,
     file: &Option<AccountFile<'_>>,
-) -> Result<Option<Vec<Account>>, AllocError>
-    ensures { IfOk result (λ list. option_map (λ accounts. accounts.items) list ≡ option_map (λ f. accounts_of kind f.bytes) file.now) }
+) -> Result<Option<AccountList>, AllocError>
+    ensures { IfOk result (λ list. list ≡ option_map (λ f. accounts_of kind f.bytes) file.now) }
 {
-    match file {
-        Some(file) => Ok(Some(read_accounts(alloc, kind, file.bytes.as_slice())?)),
-        None => Ok(None),
-    }
+    let Some(file) = file else {
+        return Ok(None);
+    };
+    let listed = read_accounts(alloc, kind, file.bytes.as_slice())?;
+    Ok(Some(AccountList::of(alloc, listed)?))
 }
 
 /// The users and the groups that a line knows.

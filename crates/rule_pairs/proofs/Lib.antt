@@ -1,3 +1,4 @@
+pub mod AccountTables
 pub mod Cutting
 pub mod Reporting
 pub mod FirstPairs

@@ -1,4 +1,5 @@
 pub mod Accounts
+pub mod AccountTables
 pub mod Matters
 pub mod Forms
 pub mod Words

@@ -1,10 +1,10 @@
 //! The users and groups that are known, and what a value of OWNER or GROUP gives by them.
 ghost use Rattle.std.specs.Prelude.{◌≡◌, option_map};
-ghost use Rattle.std.specs.List.{find};
-ghost use Rattle.text_tables.specs.Texts.{same_text};
-ghost use Rattle.rule_pairs.specs.Accounts.{given_among, given_by, given_in, given_named, is_identity, is_padded, list_of, nobody, nobody_name};
+ghost use Rattle.rule_pairs.specs.AccountTables.{given_by_number};
+ghost use Rattle.rule_pairs.specs.Accounts.{given_among, given_in, given_named, is_identity, is_padded, list_of, nobody, nobody_name};
 ghost use Rattle.rule_pairs.specs.Accounts.{written_identity};
 
+use crate::account_list::AccountList;
 use rule_templates::is_substituted;
 use std::marker::Model;
 use text_bytes::{Bytes, begins_with, decimal_below};
@@ -35,9 +35,9 @@ pub enum AccountKind {
 #[derive(Drop)]
 pub struct Accounts {
     /// The users; of those with one name the first counts. Without a list only `root` is known.
-    pub users: Option<Vec<Account>>,
+    pub users: Option<AccountList>,
     /// The groups, likewise.
-    pub groups: Option<Vec<Account>>,
+    pub groups: Option<AccountList>,
 }
 
 /// What a value of OWNER or GROUP gives.
@@ -52,12 +52,11 @@ pub enum Given {
 }
 
 impl Model for Accounts {
-    ghost use Rattle.std.specs.Prelude.{option_map};
     ghost use Rattle.rule_pairs.specs.Accounts as accounts;
 
     ghost Value = { accounts.Accounts };
 
-    ghost view = { λ a. record { users = option_map (λ v. v.items) a.users; groups = option_map (λ v. v.items) a.groups } };
+    ghost view = { λ a. record { users = a.users; groups = a.groups } };
 }
 
 impl Accounts {
@@ -72,23 +71,13 @@ impl Accounts {
     }
 
     /// The list of a kind, if there is one.
-    fn list_of(&self, kind: AccountKind) -> Option<&[Account]>
+    fn list_of(&self, kind: AccountKind) -> Option<&AccountList>
         ensures { option_map (λ list. list.now) result ≡ list_of self.now kind }
     {
         match kind {
-            AccountKind::User => borrowed(&self.users),
-            AccountKind::Group => borrowed(&self.groups),
+            AccountKind::User => self.users.as_ref(),
+            AccountKind::Group => self.groups.as_ref(),
         }
-    }
-}
-
-/// Returns a list, if there is one.
-fn borrowed(list: &Option<Vec<Account>>) -> Option<&[Account]>
-    ensures { option_map (λ list. list.now) result ≡ option_map (λ v. v.items) list.now }
-{
-    match list {
-        None => None,
-        Some(accounts) => Some(accounts.as_slice()),
     }
 }
 
@@ -147,7 +136,8 @@ fn given_named(accounts: &Accounts, kind: AccountKind, text: &[u8]) -> Given
 }
 
 /// What a name other than `root` gives, by the list of its kind.
-fn given_among(kind: AccountKind, accounts: Option<&[Account]>, name: &[u8]) -> Given
+#[tactic(auto, using(crate::proofs::AccountTables::given_by_table))]
+fn given_among(kind: AccountKind, accounts: Option<&AccountList>, name: &[u8]) -> Given
     ensures { result ≡ given_among kind (option_map (λ list. list.now) accounts.entry) name.now }
 {
     let Some(accounts) = accounts else {
@@ -156,7 +146,7 @@ fn given_among(kind: AccountKind, accounts: Option<&[Account]>, name: &[u8]) -> 
     if name == nobody_name(kind) {
         Given::Number(NOBODY)
     } else {
-        given_by(account_named(accounts, name))
+        given_by_number(accounts.number_of(name))
     }
 }
 
@@ -170,21 +160,12 @@ fn nobody_name(kind: AccountKind) -> &'static [u8]
     }
 }
 
-/// The first account of a name.
-fn account_named<'a>(accounts: &'a [Account], name: &[u8]) -> Option<&'a Account>
-    ensures { option_map (λ account. account.now) result ≡ find (λ account. same_text account.name name.now) accounts.now }
+/// What the number of an account gives, if there is one.
+fn given_by_number(number: Option<u32>) -> Given
+    ensures { result ≡ given_by_number number }
 {
-    accounts
-        .iter()
-        .find(|account| account.name.as_slice() == name)
-}
-
-/// What an account gives, if there is one.
-fn given_by(account: Option<&Account>) -> Given
-    ensures { result ≡ given_by (option_map (λ account. account.now) account.entry) }
-{
-    match account {
-        Some(account) if is_identity(account.number) => Given::Number(account.number),
+    match number {
+        Some(number) if is_identity(number) => Given::Number(number),
         _ => Given::Unknown,
     }
 }

@@ -4,6 +4,7 @@
 //! spelling. Neither finding rejects a rule.
 #![tactic(auto)]
 
+mod account_list;
 mod accounts;
 mod examples;
 mod form;
@@ -15,6 +16,7 @@ mod relations;
 mod said;
 mod words;
 
+pub use account_list::AccountList;
 pub use accounts::{Account, AccountKind, Accounts, Given, given_in};
 pub use examples::{some_act_kinds, some_matches};
 pub use laws::{

@@ -97,6 +97,11 @@ def links_with_drop_ins(count):
     return ["verify", "--links", "-r", "root"], files | drop_ins, ""
 
 
+def linted(count):
+    """Rules files below a root that are checked with lints."""
+    return ["verify", "--lint", "-r", "root"], {f"root/etc/udev/rules.d/{number:05}.rules": 'KERNEL=="a", TAG+="b"\n' for number in range(count)}, ""
+
+
 def query(text, modalias="m"):
     return ["query", modalias, "t.hwdb"], {"t.hwdb": text}, ""
 
@@ -274,6 +279,7 @@ DATABASE = [
         **{f"etc/udev/rules.d/b{number:05}.rules": "" for number in range(n)},
         **{f"run/udev/rules.d/a{number:05}.rules": "" for number in range(n)}}, "")),
     Case("rules files below a root, each behind 39 links with 1,600 names", 2, linked),
+    Case("rules files below a root that are checked with lints", 500, linted),
     Case("options of a file", 5_000, lambda n: (["verify", "--options", "o", "r"], {"r": "", "o": "--ignore=S2\n" * n}, "")),
     Case("lines of the standard input as rules", 10_000, lambda n: (["verify", "-"], {}, "x\n" * n)),
     Case("lines with what no editor shows", 50_000, lambda n: (["verify", "--lint", "r"], {"r": "# \u00a0\r\n" * n}, "")),

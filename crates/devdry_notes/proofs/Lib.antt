@@ -1,1 +1,2 @@
 pub mod NoBreak
+pub mod Ranks

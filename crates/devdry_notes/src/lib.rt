@@ -10,6 +10,7 @@ mod laws;
 mod lines;
 mod lying;
 mod notes;
+mod ranks;
 mod unseen;
 
 pub use asked::{asks_folder, asks_root};

@@ -9,6 +9,7 @@ ghost use Rattle.devdry_notes.specs.Told.{notes_of};
 use crate::asked::{asks_kinds, asks_root, asks_unseen};
 use crate::lines::{first_with, push_note_at};
 use crate::lying::push_lying;
+use crate::ranks::RankedFiles;
 use crate::unseen::Unseen;
 use engine_ends::{Line, push_escaped};
 use std::alloc::{AllocError, Global};
@@ -97,12 +98,12 @@ fn push_among(
     alloc: Global,
     notes: &mut Vec<u8>,
     profile: Profile,
-    files: &[SourceFile],
+    files: &RankedFiles<'_>,
     file: &SourceFile,
 ) -> Result<(), AllocError>
     ensures { OnOk result (notes.new.items ≡ notes.old.items ++ unseen_among profile files.now file.now) }
 {
-    if is_hidden(files, file) {
+    if files.hide(file) {
         return Ok(());
     }
     push_unseen(alloc, notes, profile, file)
@@ -214,8 +215,9 @@ fn push_each(
 ) -> Result<(), AllocError>
     ensures { OnOk result (notes.new.items ≡ notes.old.items ++ flat_map (unseen_among profile files.now) files.now) }
 {
+    let ranked = RankedFiles::of(alloc, files)?;
     for file in files {
-        push_among(alloc, notes, profile, files, file)?;
+        push_among(alloc, notes, profile, &ranked, file)?;
     }
     Ok(())
 }

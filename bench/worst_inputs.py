@@ -40,6 +40,12 @@ def told(option, rules):
     return ["events", "-r", "none", option, "r.rules"], {"r.rules": rules}, DEVICE
 
 
+def told_as_udev(option, rules):
+    """The same, evaluated as udev does."""
+    words, files, block = told(option, rules)
+    return ["events", "--udev", *words[1:]], files, block
+
+
 def as_udev(rules, block=DEVICE):
     """Rules over blocks, evaluated as udev does."""
     return ["events", "--udev", "-r", "none", "r.rules"], {"r.rules": rules}, block
@@ -215,6 +221,9 @@ TOLD = [
     Case("tags, each with what its rule did", 2_000, lambda n: told("--why=r.rules", each('TAG+="t#"\n', n)), 12),
     Case("properties, each with what its rule did", 2_000, lambda n: told("--why=r.rules", each('ENV{P#}="#"\n', n)), 12),
     Case("commands, each with what its rule did", 2_000, lambda n: told("--why=r.rules", each('RUN+="c#"\n', n)), 12),
+    *(Case(f"{what} as udev sets them, {how}", 2_000, lambda n, option=option, key=key: told_as_udev(option, each(f'{key}{{a#}}="#"\n', n)), 12)
+      for what, key in (("attributes", "ATTR"), ("parameters", "SYSCTL"))
+      for how, option in (("with their sources", "--sources"), ("each with what its rule did", "--why=r.rules"))),
     *(Case(f"{what} {how}", 400, lambda n, key=key, option=option: told(option, each(f'{key}{{a#}}="#"\n', n)))
       for what, key in (("attributes", "ATTR"), ("kernel parameters", "SYSCTL"))
       for how, option in (("with their sources", "--sources"), ("each with what its rule did", "--why=r.rules"), ("as JSON", "--format=json"))),

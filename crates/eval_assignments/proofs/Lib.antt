@@ -3,3 +3,4 @@ pub mod Digits
 pub mod Joining
 pub mod PlainLinks
 pub mod Staying
+pub mod Writing

@@ -9,6 +9,7 @@ pub mod Names
 pub mod Parameters
 pub mod Tags
 pub mod Attributes
+pub mod Written
 pub mod Runs
 pub mod Givens
 pub mod Inner

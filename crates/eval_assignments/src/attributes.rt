@@ -1,8 +1,8 @@
 //! The attribute that an assignment writes for udev, found by its name.
 ghost use Rattle.std.specs.Prelude.{◌≡◌, ◌++◌, ◌∷◌, nat_lt, codes, length, IfOk, OnOk, OnErr};
 ghost use Rattle.text_bytes.specs.Names.{slash};
-ghost use Rattle.eval_state.specs.Named.{named_place};
-ghost use Rattle.eval_assignments.specs.Attributes.{attribute_put, attribute_set, attribute_set_at, found_above, own_attribute_set};
+ghost use Rattle.eval_assignments.specs.Attributes.{attribute_put, attribute_set, found_above};
+ghost use Rattle.eval_assignments.specs.Written.{found_attribute, is_own};
 ghost use Rattle.eval_rendering.specs.Bounds.{most_path_bytes};
 
 use eval_rendering::MAX_PATH_BYTES;
@@ -37,50 +37,6 @@ fn is_path_long(path: &[u8], name: &[u8]) -> bool
     path.len() > most || name.len() > most - path.len()
 }
 
-/// Assigns a value to an attribute of the event device, unless its path is too long.
-fn set_own_attribute(
-    alloc: Global,
-    rule: &Rule,
-    name: &[u8],
-    value: Bytes,
-    scene: &mut Scene<'_>,
-) -> Result<(), AllocError>
-    ensures scene { OnOk result (scene.new ≡ own_attribute_set rule.now name.now value scene.old) }
-    ensures refused { OnErr result (scene.new.state.event ≡ scene.old.state.event) }
-{
-    let device = scene.state.event.device();
-    if is_path_long(device.path(), name) {
-        return scene.note_key(alloc, rule, NoteKind::TextTooLong, Key::Attr, Some(name));
-    }
-    let found = starred(alloc, device, name)?;
-    put_attribute(alloc, rule, name, found, value, scene)
-}
-
-/// Assigns a value to an attribute that is named with its device, if the chain has this device.
-fn set_named_attribute(
-    alloc: Global,
-    rule: &Rule,
-    named: &Named<'_>,
-    name: &[u8],
-    value: Bytes,
-    scene: &mut Scene<'_>,
-) -> Result<(), AllocError>
-    ensures scene { OnOk result (scene.new ≡ attribute_set_at (named_place named.now scene.old.state.event) named.now rule.now name.now value scene.old) }
-    ensures refused { OnErr result (scene.new.state.event ≡ scene.old.state.event) }
-{
-    match scene.state.event.named_place(named) {
-        None => set_own_attribute(alloc, rule, name, value, scene),
-        Some(0) => {
-            let found = starred(alloc, scene.state.event.device(), named.attribute)?;
-            put_attribute(alloc, rule, name, found, value, scene)
-        }
-        Some(place) => {
-            let found = found_above(alloc, &scene.state.event, place, named, name)?;
-            put_attribute(alloc, rule, name, found, value, scene)
-        }
-    }
-}
-
 /// The attribute of the device at a place of the chain, as it is found by its name, with all that is before it there.
 fn found_above(
     alloc: Global,
@@ -103,9 +59,38 @@ fn found_above(
     Ok(Some(Bytes::new(whole)))
 }
 
-/// Assigns a value to an attribute as udev finds it (systemd 257): `[SUBSYSTEM/KERNEL]ATTRIBUTE` is one of the
+/// Whether a name is that of an attribute of the event device: it names no device of the chain.
+fn is_own(event: &Chain<'_>, name: &[u8]) -> bool
+    ensures { result ≡ is_own name.now event.now }
+{
+    match Named::read(name) {
+        Some(named) => event.named_place(&named).is_none(),
+        None => true,
+    }
+}
+
+/// The attribute that a name leads to, as udev reports it (systemd 257): `[SUBSYSTEM/KERNEL]ATTRIBUTE` is one of the
 /// device of the chain with this name, if there is one, and a component `*` with others after it means the first
-/// folder that fits. A name that fits nothing leaves a note, and so does a path of over 1,023 bytes.
+/// folder that fits.
+pub(crate) fn found_attribute(
+    alloc: Global,
+    event: &Chain<'_>,
+    name: &[u8],
+) -> Result<Option<Bytes>, AllocError>
+    ensures { IfOk result (λ found. found ≡ found_attribute name.now event.now) }
+{
+    let Some(named) = Named::read(name) else {
+        return starred(alloc, event.device(), name);
+    };
+    match event.named_place(&named) {
+        None => starred(alloc, event.device(), name),
+        Some(0) => starred(alloc, event.device(), named.attribute),
+        Some(place) => found_above(alloc, event, place, &named, name),
+    }
+}
+
+/// Assigns a value to an attribute as udev finds it. A name that fits nothing leaves a note, and so does a path of over
+/// 1,023 bytes.
 pub(crate) fn set_attribute(
     alloc: Global,
     rule: &Rule,
@@ -116,8 +101,9 @@ pub(crate) fn set_attribute(
     ensures scene { OnOk result (scene.new ≡ attribute_set rule.now name.now value scene.old) }
     ensures refused { OnErr result (scene.new.state.event ≡ scene.old.state.event) }
 {
-    match Named::read(name) {
-        Some(named) => set_named_attribute(alloc, rule, &named, name, value, scene),
-        None => set_own_attribute(alloc, rule, name, value, scene),
+    if is_own(&scene.state.event, name) && is_path_long(scene.state.event.device().path(), name) {
+        return scene.note_key(alloc, rule, NoteKind::TextTooLong, Key::Attr, Some(name));
     }
+    let found = found_attribute(alloc, &scene.state.event, name)?;
+    put_attribute(alloc, rule, name, found, value, scene)
 }

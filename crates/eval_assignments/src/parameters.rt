@@ -3,11 +3,12 @@ ghost use Rattle.std.specs.Prelude.{◌≡◌, ◌≤◌, not, length, IfOk, OnO
 ghost use Rattle.std.specs.List.{prefix_len};
 ghost use Rattle.text_bytes.specs.Names.{dot};
 ghost use Rattle.text_bytes.specs.Texts.{begins_with, skip_while};
-ghost use Rattle.eval_assignments.specs.Parameters.{exchanged, is_separator, parameter_name, parameter_put, parameter_set, with_slashes};
+ghost use Rattle.eval_assignments.specs.Parameters.{exchanged, is_separator, parameter_name, parameter_set, with_slashes};
+ghost use Rattle.eval_assignments.specs.Written.{found_parameter};
 
 use crate::links::{components, joined};
 use eval_rendering::{MAX_PATH_BYTES, Rendered, render_text};
-use eval_state::{NoteKind, Scene};
+use eval_state::{NoteKind, Scene, State};
 use rule_types::{Key, Rule};
 use std::alloc::{AllocError, Global};
 use text_bytes::{Bytes, begins_with};
@@ -66,32 +67,17 @@ fn parameter_name(alloc: Global, name: &[u8]) -> Result<Bytes, AllocError>
     joined(alloc, &parts)
 }
 
-/// Assigns a value to a parameter by its name once this is rendered; one that is too long leaves a note.
-fn put_parameter(
+/// The parameter that a name leads to once it is rendered; none if it is too long.
+pub(crate) fn found_parameter(
     alloc: Global,
-    rule: &Rule,
     written: &[u8],
-    name: Rendered,
-    value: Bytes,
-    scene: &mut Scene<'_>,
-) -> Result<(), AllocError>
-    ensures scene { OnOk result (scene.new ≡ parameter_put rule.now written.now name value scene.old) }
-    ensures refused { OnErr result (scene.new.state.event ≡ scene.old.state.event) }
+    state: &State<'_>,
+) -> Result<Option<Bytes>, AllocError>
+    ensures { IfOk result (λ found. found ≡ found_parameter written.now state.now) }
 {
-    match name {
-        Rendered::Text(name) => {
-            let path = parameter_name(alloc, name.as_slice())?;
-            scene.sysctls.put(alloc, path.as_slice(), value)
-        }
-        Rendered::TooLong => {
-            scene.note_key(
-                alloc,
-                rule,
-                NoteKind::TextTooLong,
-                Key::Sysctl,
-                Some(written),
-            )
-        }
+    match render_text(alloc, written, state)?.within(MAX_PATH_BYTES) {
+        Rendered::Text(name) => Ok(Some(parameter_name(alloc, name.as_slice())?)),
+        Rendered::TooLong => Ok(None),
     }
 }
 
@@ -107,6 +93,16 @@ pub(crate) fn set_parameter(
     ensures scene { OnOk result (scene.new ≡ parameter_set rule.now written.now value scene.old) }
     ensures refused { OnErr result (scene.new.state.event ≡ scene.old.state.event) }
 {
-    let name = render_text(alloc, written, &scene.state)?.within(MAX_PATH_BYTES);
-    put_parameter(alloc, rule, written, name, value, scene)
+    match found_parameter(alloc, written, &scene.state)? {
+        Some(path) => scene.sysctls.put(alloc, path.as_slice(), value),
+        None => {
+            scene.note_key(
+                alloc,
+                rule,
+                NoteKind::TextTooLong,
+                Key::Sysctl,
+                Some(written),
+            )
+        }
+    }
 }

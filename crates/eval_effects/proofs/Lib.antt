@@ -1,4 +1,5 @@
 pub mod Tables
+pub mod Narrowing
 pub mod Fronts
 pub mod Firsts
 pub mod Fields

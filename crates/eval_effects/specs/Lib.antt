@@ -5,5 +5,6 @@ pub mod Since
 pub mod Scope
 pub mod Changes
 pub mod Effects
+pub mod Narrow
 pub mod Inner
 pub mod Laws

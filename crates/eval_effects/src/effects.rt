@@ -1,17 +1,20 @@
 //! The assignments of a rule, each reported as it is made.
 ghost use Rattle.std.specs.Prelude.{◌≡◌, ◌++◌, ◌∷◌, [], codes, IfOk, OnOk, OnErr, fold, option_map, slice_get};
 ghost use Rattle.eval_state.specs.Scenes.{blank};
+ghost use Rattle.text_tables.specs.Texts.{AreOnce};
+ghost use Rattle.text_tables.specs.Pairs.{names};
 ghost use Rattle.eval_assignments.specs.Steps.{set_step};
 ghost use Rattle.eval_effects.specs.Changes.{changes};
 ghost use Rattle.eval_effects.specs.Named.{change_key};
-ghost use Rattle.eval_effects.specs.Effects.{changed_text, effect, effects, ending, ending_of, final_text, made_text, no_name, said_left, said_of, settled_key};
+ghost use Rattle.eval_effects.specs.Effects.{changed_text, effect, effects, ending, ending_of, final_text, no_name, said_left, said_of, settled_key};
+ghost use Rattle.eval_effects.specs.Narrow.{found_text};
 ghost use Rattle.eval_effects.specs.Shown.{shown};
 
 use crate::changes::push_item_changes;
 use crate::made::push_made_changes;
 use crate::named::{final_name, push_change_key, push_rule};
 use crate::runs::push_run_changes;
-use crate::scope::Fronts;
+use crate::scope::{Fronts, written_by};
 use crate::shown::{push_joined, push_shown};
 use crate::since::Since;
 use crate::snapshot::Snapshot;
@@ -181,21 +184,32 @@ fn push_left(
     }
 }
 
-/// An assignment that was made or left a note, by the fronts that stay, what was there before it, and the scene after it.
+/// An assignment that was made or left a note, by what it writes, the fronts that stay, what was there before it, and the
+/// scene after it.
 fn made_text(
     alloc: Global,
     change: &Change,
+    written: &Option<Bytes>,
     fronts: Fronts,
     was: &Snapshot<'_>,
     scene: &Scene<'_>,
 ) -> Result<Bytes, AllocError>
-    ensures { IfOk result (λ text. text ≡ made_text change.now fronts was.now scene.now) }
+    ensures { IfOk result (λ text. text ≡ found_text written.now change.now fronts was.now scene.now) }
 {
-    let now = Snapshot::of(alloc, change, fronts, scene)?;
+    let now = Snapshot::of(alloc, change, written, fronts, scene)?;
     let mut reported = changes(alloc, was, &now)?;
     let left = note_after(was.notes(), scene);
     push_left(alloc, &mut reported, change, scene, left)?;
     changed_text(alloc, change, &reported)
+}
+
+/// No attribute and no parameter is there twice.
+fn names_are_once(scene: &Scene<'_>)
+    ensures attrs { AreOnce (names scene.now.attrs) }
+    ensures sysctls { AreOnce (names scene.now.sysctls) }
+{
+    let _attrs = scene.attrs.len();
+    let _sysctls = scene.sysctls.len();
 }
 
 /// Makes an assignment, and returns a text of what it did.
@@ -213,12 +227,15 @@ fn set_and_report<'a>(
 {
     let profile = scene.state.event.event().profile();
     let settled = settled_key(scene.finals, final_key(profile, &assignment.change));
+    let change = &assignment.change;
     let fronts = Fronts::of(assignment.operator, scene);
-    let was = Snapshot::of(alloc, &assignment.change, fronts, scene)?;
+    names_are_once(scene);
+    let written = written_by(alloc, change, &scene.state)?;
+    let was = Snapshot::of(alloc, change, &written, fronts, scene)?;
     set_one(alloc, rule, assignment, scene)?;
     match settled {
         Some(key) => final_text(alloc, key, since.rule_or(key, rule)),
-        None => made_text(alloc, &assignment.change, fronts, &was, scene),
+        None => made_text(alloc, change, &written, fronts, &was, scene),
     }
 }
 

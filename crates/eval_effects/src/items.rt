@@ -201,7 +201,7 @@ pub(crate) fn push_tags(
 }
 
 /// Adds names with their values as items.
-pub(crate) fn push_pairs(
+fn push_pairs(
     alloc: Global,
     items: &mut Vec<Item>,
     word: &[u8],

@@ -4,12 +4,14 @@
 //! what it did costs what it can have changed, and not what the scene holds.
 ghost use Rattle.std.specs.Prelude.{◌≡◌, ◌++◌, drop, IfOk, OnOk};
 ghost use Rattle.eval_effects.specs.Scope as scope;
+ghost use Rattle.eval_effects.specs.Narrow.{found_about, found_by_text, written_by, written_item};
 
-use crate::items::{Item, push_labels, push_links, push_named, push_node, push_pairs, push_tags};
-use eval_state::{MadeRun, Run, Scene};
+use crate::items::{Item, push_labels, push_links, push_named, push_node, push_tags};
+use eval_assignments::written_name;
+use eval_state::{MadeRun, Run, Scene, State};
 use rule_types::{AssignOperator, Change, Target};
 use std::alloc::{AllocError, Global};
-use text_bytes::Profile;
+use text_bytes::Bytes;
 use text_tables::CowPairs;
 
 /// How many links, tags and RUNs an assignment leaves as they are, from the first on.
@@ -54,32 +56,49 @@ impl Fronts {
     }
 }
 
-/// Adds the item of what is written under a name; for udev all of them, as a name may lead to another one.
-fn push_written(
+/// The attribute or the kernel parameter that a change writes, if it writes one.
+pub(crate) fn written_by(
     alloc: Global,
-    items: &mut Vec<Item>,
-    profile: Profile,
-    word: &[u8],
-    name: &[u8],
-    pairs: &CowPairs<'_>,
-) -> Result<(), AllocError>
-    ensures { OnOk result (items.new.items ≡ items.old.items ++ scope.written_items profile word.now name.now pairs.now) }
+    change: &Change,
+    state: &State<'_>,
+) -> Result<Option<Bytes>, AllocError>
+    ensures { IfOk result (λ name. name ≡ written_by change.now state.now) }
 {
-    match profile {
-        Profile::Manual => push_named(alloc, items, word, name, pairs.get(name)),
-        Profile::Udev => push_pairs(alloc, items, word, pairs),
+    match change {
+        Change::Text(target, _) => written_name(alloc, target, state),
+        _ => Ok(None),
     }
 }
 
-/// Adds the items that a text can change that is assigned to a key.
+/// Adds the item of what is written, if something is.
+fn push_written(
+    alloc: Global,
+    items: &mut Vec<Item>,
+    word: &[u8],
+    written: &Option<Bytes>,
+    pairs: &CowPairs<'_>,
+) -> Result<(), AllocError>
+    ensures { OnOk result (items.new.items ≡ items.old.items ++ written_item word.now written.now pairs.now) }
+{
+    match written {
+        Some(name) => {
+            let name = name.as_slice();
+            push_named(alloc, items, word, name, pairs.get(name))
+        }
+        None => Ok(()),
+    }
+}
+
+/// Adds the items that a text can change that is assigned to a key, of attributes and parameters the one that is written.
 fn push_by_text(
     alloc: Global,
     items: &mut Vec<Item>,
+    written: &Option<Bytes>,
     target: &Target,
     fronts: Fronts,
     scene: &Scene<'_>,
 ) -> Result<(), AllocError>
-    ensures { OnOk result (items.new.items ≡ items.old.items ++ scope.items_by_text target.now fronts scene.now) }
+    ensures { OnOk result (items.new.items ≡ items.old.items ++ found_by_text written.now target.now fronts scene.now) }
 {
     let profile = scene.state.event.event().profile();
     match target {
@@ -87,26 +106,8 @@ fn push_by_text(
             let name = name.as_slice();
             push_named(alloc, items, b"env", name, scene.state.env.get(name))
         }
-        Target::Attr(name) => {
-            push_written(
-                alloc,
-                items,
-                profile,
-                b"attr",
-                name.as_slice(),
-                &scene.attrs,
-            )
-        }
-        Target::Sysctl(name) => {
-            push_written(
-                alloc,
-                items,
-                profile,
-                b"sysctl",
-                name.as_slice(),
-                &scene.sysctls,
-            )
-        }
+        Target::Attr(_) => push_written(alloc, items, b"attr", written, &scene.attrs),
+        Target::Sysctl(_) => push_written(alloc, items, b"sysctl", written, &scene.sysctls),
         Target::Seclabel(_) => push_labels(alloc, items, profile, scene.labels.as_slice()),
         Target::Symlink => push_links(alloc, items, scene, fronts.links),
         Target::Tag => push_tags(alloc, items, scene, fronts.tags),
@@ -114,19 +115,22 @@ fn push_by_text(
     }
 }
 
-/// The items that an assignment can change.
+/// The items that an assignment can change, by what it writes.
 pub(crate) fn items_about(
     alloc: Global,
     change: &Change,
+    written: &Option<Bytes>,
     fronts: Fronts,
     scene: &Scene<'_>,
 ) -> Result<Vec<Item>, AllocError>
-    ensures { IfOk result (λ found. found.items ≡ scope.items_about change.now fronts scene.now) }
+    ensures { IfOk result (λ found. found.items ≡ found_about written.now change.now fronts scene.now) }
 {
     let mut found = Vec::new(alloc);
     match change {
         Change::Option(_) => push_node(alloc, &mut found, scene)?,
-        Change::Text(target, _) => push_by_text(alloc, &mut found, target, fronts, scene)?,
+        Change::Text(target, _) => {
+            push_by_text(alloc, &mut found, written, target, fronts, scene)?;
+        }
         Change::Run(_, _) => {}
     }
     Ok(found)

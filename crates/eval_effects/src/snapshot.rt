@@ -1,6 +1,6 @@
 //! What is looked at in a scene, to compare it with another one.
 ghost use Rattle.std.specs.Prelude.{◌≡◌, IfOk};
-ghost use Rattle.eval_effects.specs.Changes.{snapshot};
+ghost use Rattle.eval_effects.specs.Narrow.{found_snapshot};
 
 use crate::items::Item;
 use crate::scope::{Fronts, items_about, made_about, runs_about};
@@ -67,17 +67,19 @@ fn copied_made<'a>(alloc: Global, made: &[MadeRun<'a>]) -> Result<Vec<MadeRun<'a
 }
 
 impl<'a> Snapshot<'a> {
-    /// What there is in a scene of what an assignment can change, but for the fronts that stay.
+    /// What there is in a scene of what an assignment can change, by the attribute or the parameter that it writes, but
+    /// for the fronts that stay.
     pub(crate) fn of(
         alloc: Global,
         change: &Change,
+        written: &Option<Bytes>,
         fronts: Fronts,
         scene: &Scene<'a>,
     ) -> Result<Snapshot<'a>, AllocError>
-        ensures { IfOk result (λ s. s ≡ snapshot change.now fronts scene.now) }
+        ensures { IfOk result (λ s. s ≡ found_snapshot written.now change.now fronts scene.now) }
     {
         Ok(Snapshot {
-            items: items_about(alloc, change, fronts, scene)?,
+            items: items_about(alloc, change, written, fronts, scene)?,
             runs: copied(alloc, runs_about(change, fronts, scene))?,
             made: copied_made(alloc, made_about(change, fronts, scene))?,
             notes: scene.notes.as_slice().len(),

@@ -2,6 +2,7 @@ pub mod Placement
 pub mod Keeping
 pub mod Lookups
 pub mod Framing
+pub mod PlainNames
 pub mod Setting
 pub mod Quiet
 pub mod Touching

@@ -1,5 +1,5 @@
 -- What one assignment leaves as it was.
-use Rattle.std.proofs.Common.{◌≡◌, ℕ, Bool, true, false, cond, not, ◌||◌, List, [], ◌∷◌, ◌++◌, length, fold, flat_map, nat_lt, inl, Option, Some, None, codes, refl, ap, sym, ◌∙◌, subst}
+use Rattle.std.proofs.Common.{◌≡◌, ℕ, Bool, true, false, cond, not, ◌||◌, ◌&&◌, List, [], ◌∷◌, ◌++◌, length, fold, flat_map, nat_lt, inl, Option, Some, None, codes, refl, ap, sym, ◌∙◌, subst}
 use Rattle.std.specs.List.{list_any}
 use Rattle.text_bytes.specs.declared.profile.Profile.{Profile}
 use Rattle.text_bytes.specs.declared.profile.Profile.TheVariants.{Manual, Udev}
@@ -9,6 +9,7 @@ use Rattle.text_tables.specs.Texts.{is_among, same_text, with_text}
 use Rattle.text_tables.specs.Pairs.{Pair, value_of, with_value}
 use Rattle.rule_templates.specs.Template.{Parts as Template}
 use Rattle.rule_types.specs.Written.{attribute_of_target, key_of_target}
+use Rattle.rule_types.specs.declared.keys.Key.TheVariants as key
 use Rattle.rule_types.specs.declared.roles.AssignOperator.{AssignOperator}
 use Rattle.rule_types.specs.declared.roles.AssignOperator.TheVariants.{Assign, Add, Remove, AssignFinal}
 use Rattle.rule_types.specs.declared.roles.Target.{Target}
@@ -21,8 +22,9 @@ use Rattle.rule_types.specs.declared.part.Assignment.{Assignment}
 use Rattle.rule_types.specs.declared.part.Change.{Change}
 use Rattle.rule_types.specs.declared.part.Change.TheVariants as change
 use Rattle.rule_types.specs.Rules.{Rule}
-use Rattle.eval_rendering.specs.Bounds.{most_command_bytes, within}
-use Rattle.eval_rendering.specs.Rendering.{render}
+use Rattle.device_core.specs.Values.{EventValue}
+use Rattle.eval_rendering.specs.Bounds.{most_command_bytes, most_path_bytes, sysfs_path, within}
+use Rattle.eval_rendering.specs.Rendering.{render, rendered_as_udev}
 use Rattle.eval_rendering.specs.declared.rendered.Mode.TheVariants.{Plain}
 use Rattle.eval_rendering.specs.declared.rendered.Rendered.{Rendered}
 use Rattle.eval_rendering.specs.declared.rendered.Rendered.TheVariants as rendered
@@ -34,7 +36,9 @@ use Rattle.eval_state.specs.declared.finals.FinalKey.{FinalKey}
 use Rattle.eval_state.specs.declared.finals.FinalKey.TheVariants as final
 use Rattle.eval_state.specs.declared.note_kind.NoteKind.TheVariants.{NameIgnored, NoDeviceNumber, TagIgnored, TextTooLong}
 use Rattle.eval_state.specs.declared.scene.Scene.{Scene}
+use Rattle.eval_state.specs.declared.state.State.{State}
 use Rattle.eval_assignments.specs.Assigning.{assigned, group_set, link_text, owner_set, unless_empty, with_option}
+use Rattle.eval_assignments.specs.Attributes.{attribute_put, attribute_set}
 use Rattle.eval_assignments.specs.Escapes.{escape_of}
 use Rattle.eval_assignments.specs.Finality.{final_key, final_target, finally, is_settled}
 use Rattle.eval_assignments.specs.Inner.{given_by}
@@ -42,14 +46,18 @@ use Rattle.eval_assignments.specs.Links.{first_refused, link_noted, plain_links,
 use Rattle.eval_assignments.specs.Lists.{changed, link_names, one_tag}
 use Rattle.eval_assignments.specs.Modes.{four_digits, mode_read, mode_set}
 use Rattle.eval_assignments.specs.Names.{name_text}
+use Rattle.eval_assignments.specs.Parameters.{parameter_name, parameter_put}
 use Rattle.eval_assignments.specs.Properties.{env_text, property_added, property_changed, property_extended, property_joined, property_put, udev_property_changed}
 use Rattle.eval_assignments.specs.Runs.{command_made, made_before, run_made, run_of}
 use Rattle.eval_assignments.specs.Steps.{emptied, finally_too_long, is_ignored, lacks_number, run_step, set_step, step_by, text_given, text_rendered, text_set, text_step}
 use Rattle.eval_assignments.specs.Tags.{is_tag, tag_added, with_tag}
+use Rattle.eval_assignments.specs.Written.{found_attribute, is_own, parameter_in, written_name}
 use Rattle.eval_assignments.specs.declared.escapes.Escape.{Escape}
 use Rattle.eval_assignments.proofs.Staying.{set_stays}
+use Rattle.eval_assignments.proofs.Writing.{attribute_is_set}
 use Rattle.eval_effects.specs.Items.{item_name, label_items, node_items, pair_items}
-use Rattle.eval_sources.specs.Touched.{is_wide, is_wide_text, named_by, named_by_text, node_words}
+use Rattle.eval_sources.specs.Touched.{is_wide, is_wide_text, named_by, named_by_text, node_words, written_named}
+use Rattle.eval_sources.proofs.PlainNames.{rendered_alike}
 use Rattle.eval_sources.proofs.Lookups.{no_node, no_word}
 use Rattle.eval_sources.proofs.Framing.{Framed, among_append, extends_all, extends_self, framed_on, framed_self, pair_set, property_stays, shrinks_without}
 
@@ -175,11 +183,30 @@ module _ (n : Text) where
   unfolding node_items
   sysctls_framed name t s apart = (refl, refl, extends_self s.state.links, extends_self s.state.tags, inl refl, refl, refl, pair_set (codes "sysctl") n s.sysctls name t apart)
 
-  -- a name is not that of a text, and the text changes no more than that
-  abbrev Apart : Profile → AssignOperator → Target → Type 0
-  Apart profile o about = (is_wide_text profile o about ≡ false) × (is_among (named_by_text about) n ≡ false)
+  attribute_put_framed : (r : Rule) (name : Text) (found : Option Text) (t : Text) (s : Scene) → is_among (written_named (codes "attr") found) n ≡ false → Framed n s (attribute_put r name found t s)
+  unfolding node_items
+  attribute_put_framed r name None t s h = framed_self n s
+  attribute_put_framed r name (Some found) t s h = attrs_framed found t s (first_false _ _ h)
 
-  assigned_framed : (profile : Profile) (r : Rule) (e : Escape) (o : AssignOperator) (about : Target) (written t : Text) (s : Scene) → Apart profile o about → Framed n s (assigned profile about (given_by r e o about written) t s)
+  attribute_framed : (r : Rule) (name t : Text) (s : Scene) → is_among (written_named (codes "attr") (found_attribute name s.state.event)) n ≡ false → Framed n s (attribute_set r name t s)
+  unfolding node_items
+  attribute_framed r name t s h =
+      subst (λ u. Framed n s u) (attribute_is_set r name t s) (by (is_own name s.state.event && nat_lt most_path_bytes (length (sysfs_path s.state.event.device name))))
+    where
+      by : (b : Bool) → Framed n s (cond b (noted_key r TextTooLong key.Attr (Some name) s) (attribute_put r name (found_attribute name s.state.event) t s))
+      by true = framed_self n s
+      by false = attribute_put_framed r name (found_attribute name s.state.event) t s h
+
+  parameter_put_framed : (r : Rule) (written : Text) (name : Rendered) (t : Text) (s : Scene) → is_among (written_named (codes "sysctl") (parameter_in name)) n ≡ false → Framed n s (parameter_put r written name t s)
+  unfolding node_items
+  parameter_put_framed r written (rendered.Text name) t s h = sysctls_framed (parameter_name name) t s (first_false _ _ h)
+  parameter_put_framed r written rendered.TooLong t s h = framed_self n s
+
+  -- a name is not that of a text in a state, and the text changes no more than that
+  abbrev Apart : Profile → AssignOperator → Target → State → Type 0
+  Apart profile o about state = (is_wide_text profile o about ≡ false) × (is_among (named_by_text profile state about) n ≡ false)
+
+  assigned_framed : (profile : Profile) (r : Rule) (e : Escape) (o : AssignOperator) (about : Target) (written t : Text) (s : Scene) → Apart profile o about s.state → Framed n s (assigned profile about (given_by r e o about written) t s)
   assigned_framed Manual r e o target.Owner written t s h = owner_framed h.1 (unless_empty t) s
   assigned_framed Udev r e o target.Owner written t s h = owner_set_framed h.1 r t s
   assigned_framed Manual r e o target.Group written t s h = group_framed h.1 (unless_empty t) s
@@ -199,14 +226,14 @@ module _ (n : Text) where
   assigned_framed Manual r e o (target.Env name) written t s h = changed_framed r name (first_false _ _ h.1) o t s
   assigned_framed Udev r e o (target.Env name) written t s h = udev_changed_framed r name (first_false _ _ h.1) e o written t s
   assigned_framed Manual r e o (target.Attr name) written t s h = attrs_framed name t s (first_false _ _ h.1)
-  assigned_framed Udev r e o (target.Attr name) written t s h = let no : true ≡ false = h.0 in cc
+  assigned_framed Udev r e o (target.Attr name) written t s h = attribute_framed r name t s h.1
   assigned_framed Manual r e o (target.Sysctl name) written t s h = sysctls_framed name t s (first_false _ _ h.1)
-  assigned_framed Udev r e o (target.Sysctl name) written t s h = let no : true ≡ false = h.0 in cc
+  assigned_framed Udev r e o (target.Sysctl name) written t s h = parameter_put_framed r name (within most_path_bytes (rendered_as_udev name s.state)) t s h.1
 
   -- ---- a text, whatever becomes of it
 
   module _ (r : Rule) (e : Escape) (o : AssignOperator) (about : Target) (written : Text) where
-    given_framed : (profile : Profile) (t : Text) (s : Scene) → Apart profile o about → Framed n s (text_given profile (given_by r e o about written) t s)
+    given_framed : (profile : Profile) (t : Text) (s : Scene) → Apart profile o about s.state → Framed n s (text_given profile (given_by r e o about written) t s)
     unfolding node_items
     given_framed profile t s h = by (is_ignored profile about s)
       where
@@ -218,7 +245,7 @@ module _ (n : Text) where
     too_long_framed Manual s t h = h
     too_long_framed Udev s t h = settled_too o (final_target about) s t h
 
-    text_framed : (profile : Profile) (text : Rendered) (s : Scene) → Apart profile o about → Framed n s (text_set profile (given_by r e o about written) text s)
+    text_framed : (profile : Profile) (text : Rendered) (s : Scene) → Apart profile o about s.state → Framed n s (text_set profile (given_by r e o about written) text s)
     unfolding node_items
     text_framed profile (rendered.Text t) s h = given_framed profile t s h
     text_framed profile rendered.TooLong s h =
@@ -229,7 +256,7 @@ module _ (n : Text) where
   emptied_framed AssignFinal target.Symlink s h = let no : true ≡ false = h in cc
   emptied_framed o about s h = refl
 
-  step_framed : (profile : Profile) (r : Rule) (o : AssignOperator) (about : Target) (template : Template) (s : Scene) → Apart profile o about
+  step_framed : (profile : Profile) (r : Rule) (o : AssignOperator) (about : Target) (template : Template) (s : Scene) → Apart profile o about s.state
       → Framed n s (text_step profile (given_by r (escape_of r.sets) o about template.written) template s)
   unfolding node_items
   step_framed Manual r o about template s h = text_framed r (escape_of r.sets) o about template.written Manual _ s h
@@ -263,12 +290,12 @@ module _ (n : Text) where
 
   -- ---- an assignment
 
-  by_framed : (profile : Profile) (r : Rule) (o : AssignOperator) (c : Change) (s : Scene) → is_wide profile o c ≡ false → is_among (named_by c) n ≡ false → Framed n s (step_by profile r o c s)
+  by_framed : (profile : Profile) (r : Rule) (o : AssignOperator) (c : Change) (s : Scene) → is_wide profile o c ≡ false → is_among (named_by profile s.state c) n ≡ false → Framed n s (step_by profile r o c s)
   by_framed profile r o (change.Option known) s wide apart = settled_too o _ s (with_option known s) (option_framed apart known s)
   by_framed profile r o (change.Text about template) s wide apart = step_framed profile r o about template s (wide, apart)
   by_framed profile r o (change.Run braces template) s wide apart = run_framed profile r o braces template s
 
-  pub set_framed_too : (r : Rule) (a : Assignment) (s : Scene) → is_wide s.state.event.profile a.operator a.change ≡ false → is_among (named_by a.change) n ≡ false → Framed n s (set_step r s a)
+  pub set_framed_too : (r : Rule) (a : Assignment) (s : Scene) → is_wide s.state.event.profile a.operator a.change ≡ false → is_among (named_by s.state.event.profile s.state a.change) n ≡ false → Framed n s (set_step r s a)
   unfolding set_step
   set_framed_too r a s wide apart = by (is_settled (final_key s.state.event.profile a.change) s.finals)
     where
@@ -276,15 +303,29 @@ module _ (n : Text) where
       by true = framed_self n s
       by false = by_framed s.state.event.profile r a.operator a.change s wide apart
 
-  -- all assignments of a rule
-  pub all_framed : (r : Rule) (sets : List Assignment) (s : Scene) → list_any (λ a. is_wide s.state.event.profile a.operator a.change) sets ≡ false
-      → is_among (flat_map (λ a. named_by a.change) sets) n ≡ false → Framed n s (fold (set_step r) s sets)
-  all_framed r [] s wide apart = framed_self n s
-  all_framed r (a ∷ sets) s wide apart =
+  -- the names of what an assignment can change are the same in all states of an event
+  named_same : (profile : Profile) (o : AssignOperator) (c : Change) (u v : State) → u.event ≡ v.event → is_wide profile o c ≡ false → named_by profile u c ≡ named_by profile v c
+  named_same profile o (change.Option known) u v e wide = refl
+  named_same profile o (change.Run braces template) u v e wide = refl
+  named_same Manual o (change.Text (target.Attr name) template) u v e wide = refl
+  named_same Udev o (change.Text (target.Attr name) template) u v e wide = ap (λ (event : EventValue). written_named (codes "attr") (found_attribute name event)) e
+  named_same Manual o (change.Text (target.Sysctl name) template) u v e wide = refl
+  named_same Udev o (change.Text (target.Sysctl name) template) u v e wide =
+      ap (λ (given : Rendered). written_named (codes "sysctl") (parameter_in (within most_path_bytes given))) (rendered_alike name wide u v)
+  named_same profile o (change.Text about template) u v e wide = refl
+
+  -- all assignments of a rule, by the names in the state at its end
+  pub all_framed : (r : Rule) (end : State) (sets : List Assignment) (s : Scene) → end.event ≡ s.state.event → list_any (λ a. is_wide s.state.event.profile a.operator a.change) sets ≡ false
+      → is_among (flat_map (λ a. named_by s.state.event.profile end a.change) sets) n ≡ false → Framed n s (fold (set_step r) s sets)
+  all_framed r end [] s event wide apart = framed_self n s
+  all_framed r end (a ∷ sets) s event wide apart =
       let narrow = both (is_wide s.state.event.profile a.operator a.change) (list_any (λ b. is_wide s.state.event.profile b.operator b.change) sets) wide in
-      let other = among_append (named_by a.change) (flat_map (λ b. named_by b.change) sets) n apart in
-      framed_on n s (set_step r s a) _ (set_framed_too r a s narrow.0 other.0)
-      (all_framed r sets (set_step r s a) (ap (λ (event : _). list_any (λ b. is_wide event.profile b.operator b.change) sets) (set_stays r a s) ∙ narrow.1) other.1)
+      let other = among_append (named_by s.state.event.profile end a.change) (flat_map (λ b. named_by s.state.event.profile end b.change) sets) n apart in
+      let own = ap (λ names. is_among names n) (sym (named_same s.state.event.profile a.operator a.change end s.state event narrow.0)) ∙ other.0 in
+      framed_on n s (set_step r s a) _ (set_framed_too r a s narrow.0 own)
+      (all_framed r end sets (set_step r s a) (event ∙ sym (set_stays r a s))
+      (ap (λ (event : _). list_any (λ b. is_wide event.profile b.operator b.change) sets) (set_stays r a s) ∙ narrow.1)
+      (ap (λ (event : _). is_among (flat_map (λ b. named_by event.profile end b.change) sets) n) (set_stays r a s) ∙ other.1))
     where
       both : (a b : Bool) → (a || b) ≡ false → (a ≡ false) × (b ≡ false)
       both true b h = let no : true ≡ false = h in cc

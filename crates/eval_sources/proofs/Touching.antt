@@ -9,6 +9,7 @@ use Rattle.builtin_knowledge.specs.Knowledge.{Known}
 use Rattle.device_core.specs.Values.{EventValue}
 use Rattle.rule_types.specs.Rules.{Rule}
 use Rattle.eval_state.specs.declared.scene.Scene.{Scene}
+use Rattle.eval_state.specs.declared.state.State.{State}
 use Rattle.eval_assignments.specs.Steps.{set_step}
 use Rattle.eval_rules.specs.Idle.{is_idle}
 use Rattle.eval_rules.specs.Steps.{Went, apply, before_sets, only_noted, set_all, steps}
@@ -30,8 +31,8 @@ not_false : (b : Bool) → not b ≡ false → b ≡ true
 not_false true h = refl
 not_false false h = cc
 
-module _ (known : Known) (r : Rule) (s : Scene) (n : Text) (acts : not (is_empty r.acts) ≡ false)
-    (narrow : list_any (λ a. is_wide s.state.event.profile a.operator a.change) r.sets ≡ false) (apart : is_among (flat_map (λ a. named_by a.change) r.sets) n ≡ false) where
+module _ (known : Known) (r : Rule) (s : Scene) (end : State) (n : Text) (acts : not (is_empty r.acts) ≡ false) (event : end.event ≡ s.state.event)
+    (narrow : list_any (λ a. is_wide s.state.event.profile a.operator a.change) r.sets ≡ false) (apart : is_among (flat_map (λ a. named_by s.state.event.profile end a.change) r.sets) n ≡ false) where
   -- a scene that is the same but for what matches change
   from_quiet : (u t : Scene) → quiet u ≡ quiet s → Framed n u t → Framed n s t
   unfolding node_items
@@ -43,7 +44,8 @@ module _ (known : Known) (r : Rule) (s : Scene) (n : Text) (acts : not (is_empty
   unfolding node_items
   end_framed w e true =
       from_quiet w.0 (fold (set_step r) w.0 r.sets) e
-      (all_framed n r r.sets w.0 (ap (λ (u : Scene). list_any (λ a. is_wide u.state.event.profile a.operator a.change) r.sets) e ∙ narrow) apart)
+      (all_framed n r end r.sets w.0 (event ∙ sym (ap (λ (u : Scene). u.state.event) e)) (ap (λ (u : Scene). list_any (λ a. is_wide u.state.event.profile a.operator a.change) r.sets) e ∙ narrow)
+      (ap (λ (u : Scene). is_among (flat_map (λ a. named_by u.state.event.profile end a.change) r.sets) n) e ∙ apart))
   end_framed w e false = from_quiet w.0 w.0 e (framed_self n w.0)
 
   apply_framed : Framed n s (apply known r s).0
@@ -64,10 +66,10 @@ untouched known r s t on n e acts narrow apart =
     let before = ap (λ (event : EventValue). list_any (λ a. is_wide event.profile a.operator a.change) r.sets) (sym event) ∙ few.0 in
     let links : List Text = map (item_name (codes "link")) (drop (length s.state.links) t.state.links) in
     let tags : List Text = map (item_name (codes "tag")) (drop (length s.state.tags) t.state.tags) in
-    let named : List Text = flat_map (λ a. named_by a.change) r.sets in
+    let named : List Text = flat_map (λ a. named_by t.state.event.profile t.state a.change) r.sets in
     let rest = among_append (links ++ tags) named n apart in
     let parts = among_append links tags n rest.0 in
-    item_stays n s t (subst (λ u. Framed n s u) (sym is) (apply_framed known r s n acts before rest.1)) (not_false (nat_eq (length t.gone) (length s.gone)) few.1) parts.0 parts.1
+    item_stays n s t (subst (λ u. Framed n s u) (sym is) (apply_framed known r s t.state n acts event before (ap (λ (event : EventValue). is_among (flat_map (λ a. named_by event.profile t.state a.change) r.sets) n) (sym event) ∙ rest.1))) (not_false (nat_eq (length t.gone) (length s.gone)) few.1) parts.0 parts.1
 
 -- what is kept after a rule that can have changed an item
 pub told_on : (known : Known) (r : Rule) (s t : Scene) (on : Bool) (held now : Held) → (t, on) ≡ apply known r s → now ≡ told_after r (sizes s) t held → Proceeds (items s) (Some r) (items t) held now

@@ -1,5 +1,5 @@
 -- Serves inner proofs only: the items that the assignments of a rule can have changed.
-use Rattle.std.specs.Prelude.{Bool, true, false, not, ◌||◌, nat_eq, List, [], ◌∷◌, ◌++◌, drop, length}
+use Rattle.std.specs.Prelude.{Bool, true, false, not, ◌||◌, ◌&&◌, nat_eq, List, [], ◌∷◌, ◌++◌, drop, length}
 use Rattle.std.specs.Prelude.{map, flat_map, Option, Some, None, option_map, if◌then◌else◌, codes}
 use Rattle.std.specs.Fmt.{signed_decimal}
 use Rattle.std.specs.List.{list_any}
@@ -7,6 +7,7 @@ use Rattle.text_bytes.specs.declared.profile.Profile.{Profile}
 use Rattle.text_bytes.specs.declared.profile.Profile.TheVariants.{Manual, Udev}
 use Rattle.text_bytes.specs.Text.{Text}
 use Rattle.text_tables.specs.Pairs.{Pair, value_of}
+use Rattle.rule_templates.specs.Substituted.{has_sign}
 use Rattle.rule_types.specs.declared.roles.AssignOperator.{AssignOperator}
 use Rattle.rule_types.specs.declared.roles.AssignOperator.TheVariants.{Add}
 use Rattle.rule_types.specs.declared.roles.Target.{Target}
@@ -17,6 +18,8 @@ use Rattle.rule_types.specs.declared.part.Assignment.{Assignment}
 use Rattle.rule_types.specs.Rules.{Rule}
 use Rattle.eval_state.specs.Texts.{filled}
 use Rattle.eval_state.specs.declared.scene.Scene.{Scene}
+use Rattle.eval_state.specs.declared.state.State.{State}
+use Rattle.eval_assignments.specs.Written.{written_name}
 use Rattle.eval_effects.specs.Items.{item_name, items}
 use Rattle.eval_sources.specs.declared.touched.Sizes.{Sizes}
 
@@ -34,13 +37,13 @@ abbrev pub is_udev : Profile → Bool
 is_udev Manual = false
 is_udev Udev = true
 
--- whether a text that is assigned can change more items than those that are added and the one that it names
+-- whether a text that is assigned can change more items than those that are added and the one that it names; for udev the
+-- name of a parameter is rendered before the rule is done
 abbrev pub is_wide_text : Profile → AssignOperator → Target → Bool
 is_wide_text profile o (target.Env name) = false
 is_wide_text profile o target.Symlink = not (only_adds o)
 is_wide_text profile o target.Tag = not (only_adds o)
-is_wide_text profile o (target.Attr name) = is_udev profile
-is_wide_text profile o (target.Sysctl name) = is_udev profile
+is_wide_text profile o (target.Sysctl name) = is_udev profile && has_sign name
 is_wide_text profile o (target.Seclabel name) = true
 is_wide_text profile o about = false
 
@@ -58,21 +61,26 @@ abbrev pub node_words : List Text
 node_words =
     codes "name" ∷ codes "owner" ∷ codes "group" ∷ codes "mode" ∷ codes "priority" ∷ codes "watch" ∷ codes "nowatch" ∷ codes "persist" ∷ []
 
+-- the name of the item of what is written
+abbrev pub written_named : Text → Option Text → List Text
+written_named word None = []
+written_named word (Some name) = item_name word name ∷ []
+
 -- the names of the items that a text can be assigned to
-abbrev pub named_by_text : Target → List Text
-named_by_text (target.Env name) = item_name (codes "env") name ∷ []
-named_by_text (target.Attr name) = item_name (codes "attr") name ∷ []
-named_by_text (target.Sysctl name) = item_name (codes "sysctl") name ∷ []
-named_by_text target.Symlink = []
-named_by_text target.Tag = []
-named_by_text (target.Seclabel name) = []
-named_by_text about = node_words
+abbrev pub named_by_text : Profile → State → Target → List Text
+named_by_text profile state (target.Env name) = item_name (codes "env") name ∷ []
+named_by_text profile state (target.Attr name) = written_named (codes "attr") (written_name profile (target.Attr name) state)
+named_by_text profile state (target.Sysctl name) = written_named (codes "sysctl") (written_name profile (target.Sysctl name) state)
+named_by_text profile state target.Symlink = []
+named_by_text profile state target.Tag = []
+named_by_text profile state (target.Seclabel name) = []
+named_by_text profile state about = node_words
 
 -- the names of the items that an assignment can change
-abbrev pub named_by : Change → List Text
-named_by (change.Option known) = node_words
-named_by (change.Text about template) = named_by_text about
-named_by (change.Run braces template) = []
+abbrev pub named_by : Profile → State → Change → List Text
+named_by profile state (change.Option known) = node_words
+named_by profile state (change.Text about template) = named_by_text profile state about
+named_by profile state (change.Run braces template) = []
 
 -- whether a device is watched, or is not, as a rule has it
 abbrev pub is_watch : Option Bool → Bool → Bool
@@ -91,7 +99,7 @@ of_tags tags = map (item_name (codes "tag")) tags
 -- the names of the items that a rule can have changed otherwise: the links and tags that are new, and what it names
 abbrev pub touched : Rule → Sizes → Scene → List Text
 touched r was s =
-    of_links (drop was.links s.state.links) ++ of_tags (drop was.tags s.state.tags) ++ flat_map (λ a. named_by a.change) r.sets
+    of_links (drop was.links s.state.links) ++ of_tags (drop was.tags s.state.tags) ++ flat_map (λ a. named_by s.state.event.profile s.state a.change) r.sets
 
 -- the items of the device's node that have a text as their value, if they are there
 abbrev pub texts_found : Scene → List (Text × Option Text)

@@ -7,10 +7,12 @@ ghost use Rattle.eval_sources.specs.Touched as names;
 use crate::found::{Found, push_bare, push_found};
 use crate::node::push_node;
 use crate::touched::Sizes;
+use eval_assignments::written_name;
 use eval_effects::{item_name, texts_after};
 use eval_state::Scene;
 use rule_types::{Assignment, Change, Rule, Target};
 use std::alloc::{AllocError, Global};
+use text_bytes::Bytes;
 
 /// Adds a link or a tag, which has no text as its value.
 fn push_member(
@@ -112,6 +114,36 @@ fn push_parameter(
     push_pair(alloc, found, b"sysctl", name, scene.sysctls.get(name))
 }
 
+/// Adds the attribute that is written, if one is.
+fn push_written_attribute(
+    alloc: Global,
+    found: &mut Vec<Found>,
+    scene: &Scene<'_>,
+    written: Option<Bytes>,
+) -> Result<(), AllocError>
+    ensures { OnOk result (found.new.items ≡ found.old.items ++ names.found (items scene.now) (names.written_named (codes "attr") written)) }
+{
+    match written {
+        Some(name) => push_attribute(alloc, found, scene, name.as_slice()),
+        None => Ok(()),
+    }
+}
+
+/// Adds the kernel parameter that is written, if one is.
+fn push_written_parameter(
+    alloc: Global,
+    found: &mut Vec<Found>,
+    scene: &Scene<'_>,
+    written: Option<Bytes>,
+) -> Result<(), AllocError>
+    ensures { OnOk result (found.new.items ≡ found.old.items ++ names.found (items scene.now) (names.written_named (codes "sysctl") written)) }
+{
+    match written {
+        Some(name) => push_parameter(alloc, found, scene, name.as_slice()),
+        None => Ok(()),
+    }
+}
+
 /// Adds the items that a text can be assigned to.
 fn push_target(
     alloc: Global,
@@ -119,12 +151,18 @@ fn push_target(
     scene: &Scene<'_>,
     target: &Target,
 ) -> Result<(), AllocError>
-    ensures { OnOk result (found.new.items ≡ found.old.items ++ names.found (items scene.now) (names.named_by_text target.now)) }
+    ensures { OnOk result (found.new.items ≡ found.old.items ++ names.found (items scene.now) (names.named_by_text scene.now.state.event.profile scene.now.state target.now)) }
 {
     match target {
         Target::Env(name) => push_property(alloc, found, scene, name.as_slice()),
-        Target::Attr(name) => push_attribute(alloc, found, scene, name.as_slice()),
-        Target::Sysctl(name) => push_parameter(alloc, found, scene, name.as_slice()),
+        Target::Attr(_) => {
+            let written = written_name(alloc, target, &scene.state)?;
+            push_written_attribute(alloc, found, scene, written)
+        }
+        Target::Sysctl(_) => {
+            let written = written_name(alloc, target, &scene.state)?;
+            push_written_parameter(alloc, found, scene, written)
+        }
         Target::Symlink | Target::Tag | Target::Seclabel(_) => Ok(()),
         _ => push_node(alloc, found, scene),
     }
@@ -137,7 +175,7 @@ fn push_named(
     scene: &Scene<'_>,
     change: &Change,
 ) -> Result<(), AllocError>
-    ensures { OnOk result (found.new.items ≡ found.old.items ++ names.found (items scene.now) (names.named_by change.now)) }
+    ensures { OnOk result (found.new.items ≡ found.old.items ++ names.found (items scene.now) (names.named_by scene.now.state.event.profile scene.now.state change.now)) }
 {
     match change {
         Change::Option(_) => push_node(alloc, found, scene),
@@ -217,7 +255,7 @@ fn push_all_named(
     scene: &Scene<'_>,
     sets: &[Assignment],
 ) -> Result<(), AllocError>
-    ensures { OnOk result (found.new.items ≡ found.old.items ++ names.found (items scene.now) (flat_map (λ a. names.named_by a.change) sets.now)) }
+    ensures { OnOk result (found.new.items ≡ found.old.items ++ names.found (items scene.now) (flat_map (λ a. names.named_by scene.now.state.event.profile scene.now.state a.change) sets.now)) }
 {
     for set in sets {
         push_named(alloc, found, scene, &set.change)?;

@@ -1,12 +1,14 @@
 //! What a rule can have changed.
 //!
-//! A rule that adds links and tags, sets properties or items of the node, or adds what is to be run changes a few items,
-//! and these can be named. What another rule changes is not told apart.
+//! A rule that adds links and tags, sets properties, attributes, parameters or items of the node, or adds what is to be run
+//! changes a few items, and these can be named. What another rule changes is not told apart: for udev the name of a parameter
+//! is rendered before the rule is done.
 ghost use Rattle.std.specs.Prelude.{◌≡◌};
 ghost use Rattle.std.specs.List.{list_any};
 ghost use Rattle.eval_sources.specs.Touched as names;
 
 use eval_state::Scene;
+use rule_templates::has_sign;
 use rule_types::{AssignOperator, Assignment, Change, Rule, Target};
 use text_bytes::Profile;
 
@@ -57,7 +59,7 @@ fn is_wide_text(profile: Profile, operator: AssignOperator, target: &Target) -> 
 {
     match target {
         Target::Symlink | Target::Tag => !only_adds(operator),
-        Target::Attr(_) | Target::Sysctl(_) => is_udev(profile),
+        Target::Sysctl(name) => is_udev(profile) && has_sign(name.as_slice()),
         Target::Seclabel(_) => true,
         _ => false,
     }

@@ -236,8 +236,7 @@ UDEV = [
          lambda n: as_udev(each('SYMLINK+="l#"\n', 100) + f'ATTRS{{{"%L" * 8_000}}}=="x", TAG+="t"\n' * n, chain("", "D: 8:0\n"))),
     Case("devices that are described by their paths, and components of a path", 160,
          lambda n: as_udev('IMPORT{builtin}="net_id"\n' * 20, interface_of(n))),
-    # each file has its drop-ins among all
-    Case(".link files with a drop-in each, and interfaces that none is for", 300, interfaces, 150),
+    Case(".link files with a drop-in each, and interfaces that none is for", 300, interfaces),
     Case("lines of a .link file", 20_000, lambda n: named_by({"a.link": "[Match]\n" + each("OriginalName=x#\n", n) + "[Link]\nName=a\n"}, 3)),
     Case("files that rules import", 500, lambda n: importing(each('IMPORT{file}="/f#"\n', n), {f"f{number}": "A=1\n" for number in range(n)})),
     Case("imports of a file of 65,000 bytes", 20, lambda n: importing('IMPORT{file}="/f"\n' * n, {"f": each("A#=1\n", 6_000)})),
@@ -246,8 +245,7 @@ UDEV = [
 ]
 
 LINKS = [
-    # each file has its drop-ins among all
-    Case(".link files that are checked with a drop-in each", 300, links_with_drop_ins, 150),
+    Case(".link files that are checked with a drop-in each", 300, links_with_drop_ins),
     Case("unknown keys of a .link file", 20_000, lambda n: checked_links("[Link]\n" + each("Nmae#=\n", n))),
     Case("patterns of a .link file that is checked", 20_000, lambda n: checked_links("[Match]\n" + each("OriginalName=x#\n", n))),
     Case("words of a line of a .link file", 20_000, lambda n: checked_links("[Match]\nPath=" + each("x# ", n) + '"\n')),

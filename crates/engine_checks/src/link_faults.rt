@@ -9,6 +9,7 @@ use crate::ignores::ignores_counted;
 use crate::reads::FileRead;
 use crate::reported::{Asked, file_reported};
 use engine_formats::{Diagnostic, Remark};
+use link_files::DropIns;
 use link_lints::{PlacedFault, link_faults};
 use std::alloc::{AllocError, Global};
 use text_bytes::SourceFile;
@@ -48,7 +49,7 @@ fn link_diagnostics<'r>(
 /// What is found in a file among these.
 fn links_found<'r>(
     alloc: Global,
-    files: &[SourceFile],
+    files: &DropIns<'_>,
     read: &'r FileRead<'_>,
 ) -> Result<Vec<Diagnostic<'r>>, AllocError>
     ensures { IfOk result (λ found. map shown found.items ≡ links_found read.now.text files.now read.now.file) }
@@ -61,7 +62,7 @@ fn links_found<'r>(
 fn reported_for_file<'r>(
     alloc: Global,
     asked: &Asked<'_>,
-    files: &[SourceFile],
+    files: &DropIns<'_>,
     read: &'r FileRead<'_>,
 ) -> Result<Vec<Diagnostic<'r>>, AllocError>
     ensures { IfOk result (λ reported. map shown reported.items ≡ links_reported_by asked.now files.now read.now) }
@@ -81,9 +82,10 @@ pub(crate) fn links_reported<'r>(
     ensures { IfOk result (λ reported. map shown reported.items
         ≡ flat_map (links_reported_by asked.now files.now) reads.now) }
 {
+    let files = DropIns::of(alloc, files)?;
     let mut reported = Vec::new(alloc);
     for read in reads {
-        reported.append(&mut reported_for_file(alloc, asked, files, read)?)?;
+        reported.append(&mut reported_for_file(alloc, asked, &files, read)?)?;
     }
     Ok(reported)
 }

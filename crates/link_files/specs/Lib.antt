@@ -6,3 +6,4 @@ pub mod Settings
 pub mod Lists
 pub mod Files
 pub mod Examples
+pub mod DropIns

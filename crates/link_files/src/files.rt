@@ -1,14 +1,15 @@
 //! The `.link` files, in the order in which they are looked at.
-ghost use Rattle.std.specs.Prelude.{◌≡◌, ◌++◌, ◌<◌, IfOk, OnOk, filter, filter_map, flat_map, map};
+ghost use Rattle.std.specs.Prelude.{◌≡◌, ◌++◌, ◌<◌, IfOk, OnOk, filter_map, flat_map, map};
 ghost use Rattle.std.specs.List.{join_with_byte};
 ghost use Rattle.text_bytes.specs.Names.{colon};
-ghost use Rattle.link_files.specs.Files.{is_drop_in, is_masked, link_file, link_files, link_folder, listed_byte, listed_path, path_of, reading_of, small_digit};
+ghost use Rattle.link_files.specs.Files.{is_masked, link_file, link_files, link_folder, listed_byte, listed_path, path_of, reading_of, small_digit};
 ghost use Rattle.link_files.specs.Files.{with_drop_ins};
 
+use crate::drop_ins::DropIns;
 use crate::settings::{Reading, Setting, take_file};
 use std::alloc::{AllocError, Global};
 use std::marker::Model;
-use text_bytes::{Bytes, SourceFile, begins_with, following, order_files};
+use text_bytes::{Bytes, SourceFile, begins_with, order_files};
 
 /// A `.link` file with what it and its drop-ins set.
 #[derive(Drop)]
@@ -138,37 +139,6 @@ fn listed(alloc: Global, files: &[&SourceFile]) -> Result<Bytes, AllocError>
     Ok(Bytes::new(text))
 }
 
-/// Whether a file is a drop-in of another.
-#[tactic(auto, unfolding(crate::specs::Files::is_drop_in))]
-fn is_drop_in(file: &SourceFile, other: &SourceFile) -> bool
-    ensures { result ≡ is_drop_in file.now other.now }
-{
-    match following(file.name.as_slice(), other.name.as_slice()) {
-        Some(rest) => match following(b".d/", rest) {
-            Some(name) => !begins_with(b'.', name),
-            None => false,
-        },
-        None => false,
-    }
-}
-
-/// The drop-ins of a file among some files.
-pub fn drop_ins_of<'f>(
-    alloc: Global,
-    file: &SourceFile,
-    drop_ins: &'f [SourceFile],
-) -> Result<Vec<&'f SourceFile>, AllocError>
-    ensures { IfOk result (λ own. map (λ f. f.now) own.items ≡ filter (is_drop_in file.now) drop_ins.now) }
-{
-    let mut own = Vec::new(alloc);
-    for other in drop_ins {
-        if is_drop_in(file, other) {
-            own.push(other)?;
-        }
-    }
-    Ok(own)
-}
-
 /// Takes files one after another.
 fn take_files(alloc: Global, reading: &mut Reading, files: &[&SourceFile]) -> Result<(), AllocError>
     ensures { OnOk result (reading.new ≡ reading_of reading.old (map (λ f. f.now) files.now)) }
@@ -209,7 +179,7 @@ pub fn with_drop_ins(
 #[tactic(auto, unfolding(crate::specs::Files::link_file))]
 fn link_file(
     alloc: Global,
-    drop_ins: &[SourceFile],
+    drop_ins: &DropIns<'_>,
     file: &SourceFile,
 ) -> Result<Option<LinkFile>, AllocError>
     ensures { IfOk result (λ link. link ≡ link_file drop_ins.now file.now) }
@@ -217,8 +187,7 @@ fn link_file(
     if is_masked(file) {
         return Ok(None);
     }
-    let own = drop_ins_of(alloc, file, drop_ins)?;
-    Ok(Some(with_drop_ins(alloc, file, &own)?))
+    Ok(Some(with_drop_ins(alloc, file, drop_ins.of_file(file))?))
 }
 
 /// Those of these files that count, each with its drop-ins.
@@ -229,9 +198,10 @@ fn with_all_drop_ins(
 ) -> Result<Vec<LinkFile>, AllocError>
     ensures { IfOk result (λ files. files.items ≡ filter_map (link_file drop_ins.now) links.now) }
 {
+    let drop_ins = DropIns::of(alloc, drop_ins)?;
     let mut files = Vec::new(alloc);
     for file in links {
-        if let Some(link) = link_file(alloc, drop_ins, file)? {
+        if let Some(link) = link_file(alloc, &drop_ins, file)? {
             files.push(link)?;
         }
     }

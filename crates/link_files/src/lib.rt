@@ -2,6 +2,7 @@
 #![tactic(auto)]
 
 mod booleans;
+mod drop_ins;
 mod files;
 mod laws;
 mod lines;
@@ -11,9 +12,8 @@ mod settings;
 mod words;
 
 pub use booleans::{is_no, is_yes};
-pub use files::{
-    LinkFile, drop_ins_of, is_masked, link_folder, path_of, read_links, with_drop_ins,
-};
+pub use drop_ins::DropIns;
+pub use files::{LinkFile, is_masked, link_folder, path_of, read_links, with_drop_ins};
 pub use laws::{
     files_are_put_together, lines_are_put_together, lines_set_keys, names_are_short,
     names_of_interfaces, values_are_split,

@@ -8,6 +8,7 @@ use crate::line_faults::{add_line_faults, section_after};
 use crate::matching::add_whole_faults;
 use crate::placed_fault::PlacedFault;
 use crate::sections::Section;
+use link_files::DropIns;
 use std::alloc::{AllocError, Global};
 use text_bytes::SourceFile;
 
@@ -48,7 +49,7 @@ fn add_file_faults(
 #[tactic(auto, unfolding(crate::specs::Matching::link_faults))]
 pub fn link_faults(
     alloc: Global,
-    files: &[SourceFile],
+    files: &DropIns<'_>,
     file: &SourceFile,
 ) -> Result<Vec<PlacedFault>, AllocError>
     ensures { IfOk result (λ faults. faults.items ≡ link_faults files.now file.now) }

@@ -5,9 +5,7 @@ ghost use Rattle.link_lints.specs.Matching.{match_faults, no_interface, whole_fa
 
 use crate::fault::LinkFault;
 use crate::placed_fault::PlacedFault;
-use link_files::{
-    LinkFile, MATCH, Setting, WordKind, drop_ins_of, last_of, list_of, with_drop_ins,
-};
+use link_files::{DropIns, LinkFile, MATCH, Setting, WordKind, last_of, list_of, with_drop_ins};
 use std::alloc::{AllocError, Global};
 use text_bytes::{Bytes, SourceFile};
 
@@ -131,7 +129,7 @@ fn is_link(file: &SourceFile) -> bool
 pub(crate) fn add_whole_faults(
     alloc: Global,
     found: &mut Vec<PlacedFault>,
-    files: &[SourceFile],
+    files: &DropIns<'_>,
     file: &SourceFile,
 ) -> Result<(), AllocError>
     ensures { OnOk result (found.new.items ≡ found.old.items ++ whole_faults files.now file.now) }
@@ -139,7 +137,6 @@ pub(crate) fn add_whole_faults(
     if !is_link(file) {
         return Ok(());
     }
-    let own = drop_ins_of(alloc, file, files)?;
-    let link = with_drop_ins(alloc, file, &own)?;
+    let link = with_drop_ins(alloc, file, files.of_file(file))?;
     add_match_faults(alloc, found, &link)
 }

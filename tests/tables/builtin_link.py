@@ -36,6 +36,7 @@ def block(given):
         *(f"E: {text}" for text in given.get("properties", ())),
         *(f"A: {name}={value}" for name, value in attributes.items()),
         *([f"K: cmdline={cmdline}"] if cmdline else []),
+        *(f"K: {line}" for line in given.get("machine", ())),
         *(f"K: {text}" for text in given.get("machine", ())),
     ))
 
@@ -49,4 +50,29 @@ def row(name, files, given, real, own=None):
                output=b"".join(line + b"\n" for line in lines) + b"\n", messages=unsound(name))
 
 
-ROWS = [row(*case) for case in CASES]
+# A key of [Match] beside what the block says of the machine or the interface, and whether it is met: by `udevadm test-builtin` of 257
+# on a machine that is so, and for other machines by systemd.unit(5). A text is what the note says is needed.
+MACHINES = [
+    ("Architecture", ["arch=x86-64"], {"x86-64": True, "native": True, "arm64": False, "x86": False, "X86-64": False, "x86-*": False, "x86-64 arm64": False,
+                                       "!arm64": True, "! arm64": True, "!x86-64": False, "!!arm64": True, "bogus": False, "arm64\nArchitecture=x86-64": True}),
+    ("Architecture", ["virt=kvm"], {"x86-64": "Architecture", "!arm64": "Architecture", "native": "Architecture"}),
+    ("Virtualization", ["virt=kvm"], {"kvm": True, "KVM": False, "none": False, "qemu": False, "vm": True, "container": False, "yes": True, "no": False, "1": True, "OFF": False,
+                                      "!kvm": False, "!qemu": True, "! yes": False, "kvm qemu": False, "private-users": "Virtualization"}),
+    ("Virtualization", ["virt=none"], {"none": False, "yes": False, "no": True, "vm": False, "container": False, "!vm": True}),
+    ("Virtualization", ["virt=docker"], {"docker": True, "container": True, "vm": False, "true": True}),
+    ("Virtualization", ["arch=x86-64"], {"kvm": "Virtualization"}),
+    ("Kind", ["kind=veth"], {"veth": True, "v*": True, "bridge veth": True, "!bridge": True, "VETH": False, "!veth": False}),
+    ("Kind", ["kind="], {"veth": False, "*": False, "!veth": True}),
+    ("PermanentMACAddress", ["permaddr=02:00:00:00:00:01"], {"02:00:00:00:00:01": True, "12:34:56:78:90:ab": False}),
+    ("KernelVersion", ["kernel=6.18"], {"6.*": "KernelVersion"}),
+]
+NAMED = ["ID_NET_LINK_FILE=/etc/systemd/network/10-a.link", "ID_NET_LINK_FILE_DROPINS=", "ID_NET_NAME=abc0"]
+
+
+def matching(key, machine, value, met):
+    """A run over a file with this key alone."""
+    real = [f"note {met}"] if isinstance(met, str) else NAMED if met else []
+    return row(f"{key}={value.splitlines()[0]} in {len(value.splitlines())} lines where {', '.join(machine)}", {"10-a.link": f"[Match]\n{key}={value}\n[Link]\nName=abc0\n"}, {"machine": machine}, real)
+
+
+ROWS = [row(*case) for case in CASES] + [matching(key, machine, value, met) for key, machine, values in MACHINES for value, met in values.items()]

@@ -7,11 +7,12 @@ use Rattle.text_bytes.specs.Text.{Text}
 use Rattle.text_tables.specs.Pairs.{Pair, value_of}
 use Rattle.text_links.specs.Kernels.{kernel_name}
 use Rattle.device_core.specs.Values.{EventValue}
-use Rattle.builtin_devices.specs.Devices.{attribute}
+use Rattle.builtin_devices.specs.Devices.{attribute, some_text}
 use Rattle.builtin_devices.specs.Numbers.{is_number}
 use Rattle.builtin_link.specs.Addresses.{are_addresses, has_address}
 use Rattle.builtin_link.specs.Globs.{are_true_of, passes_if}
 use Rattle.builtin_link.specs.Hardware.{type_text}
+use Rattle.builtin_link.specs.Machines.{written_holds}
 use Rattle.builtin_link.specs.Numbers.{own_number}
 use Rattle.link_files.specs.Lists.{last_of, list_of, match_section}
 use Rattle.link_files.specs.declared.settings.Setting.{Setting}
@@ -67,20 +68,32 @@ lacking_check need words (Some text) = one_of_check words text
 unfoldable pub address_check : Need → List Text → Option Text → Check
 address_check need words text = if is_empty words then Absent else lacking_check need words text
 
--- the address of the hardware, if the block says that the one of the interface is it
+-- the address of the hardware: that of the interface, if the block says that this is it, or else what the block says of it
 unfoldable pub permanent_address : EventValue → Option Text
 permanent_address event =
     if is_number 0 (own_number event (codes "addr_assign_type"))
     then attribute event.device (codes "address")
-    else None
+    else value_of event.constants (codes "permaddr")
 
 -- whether the words are true of the properties
 unfoldable pub property_check : List Pair → List Text → Check
 property_check env words = if is_empty words then Absent else check_of (are_true_of env words)
 
--- a condition on the machine, of which a block says nothing, by its key; an empty value asks nothing
-abbrev pub condition_check : List Setting → Text × Need → Check
-condition_check settings condition = if is_empty (last_of match_section condition.0 settings) then Absent else Lacks condition.1
+-- a condition, by whether it holds, if the block tells that
+abbrev pub told_check : Need → Option Bool → Check
+told_check need None = Lacks need
+told_check need (Some holds) = check_of holds
+
+-- a condition on the machine, by its key; an empty value asks nothing
+abbrev pub condition_check : EventValue → List Setting → Text × Need → Check
+condition_check event settings condition =
+    let value = last_of match_section condition.0 settings in
+    if is_empty value then Absent else told_check condition.1 (written_holds event condition.1 value)
+
+-- whether the kind of an interface fits the words that are given for it: an empty kind is none
+unfoldable pub kind_check : List Text → Option Text → Check
+kind_check words None = known_check Kind words None
+kind_check words (Some kind) = text_check words (some_text (Some kind))
 
 -- the conditions on the machine
 abbrev pub conditions : List (Text × Need)
@@ -102,11 +115,11 @@ name_checks event env settings =
     ∷ known_check Driver (list_of Glob (codes "Driver") settings) (value_of env (codes "ID_NET_DRIVER"))
     ∷ []
 
--- what they say of its type, its kind, its addresses and its properties; no block tells the kind
+-- what they say of its type, its kind, its addresses and its properties
 unfoldable pub kind_checks : EventValue → (env : List Pair) → List Setting → List Check
 kind_checks event env settings =
     known_check Hardware (list_of Glob (codes "Type") settings) (type_text event)
-    ∷ known_check Kind (list_of Glob (codes "Kind") settings) None
+    ∷ kind_check (list_of Glob (codes "Kind") settings) (value_of event.constants (codes "kind"))
     ∷ address_check Address (list_of Plain (codes "MACAddress") settings) (attribute event.device (codes "address"))
     ∷ address_check PermanentAddress (list_of Plain (codes "PermanentMACAddress") settings) (permanent_address event)
     ∷ property_check env (list_of Property (codes "Property") settings)
@@ -114,7 +127,7 @@ kind_checks event env settings =
 
 -- what the keys of [Match] say, each by itself
 unfoldable pub checks_of : EventValue → (env : List Pair) → List Setting → List Check
-checks_of event env settings = name_checks event env settings ++ kind_checks event env settings ++ map (condition_check settings) conditions
+checks_of event env settings = name_checks event env settings ++ kind_checks event env settings ++ map (condition_check event settings) conditions
 
 -- whether a key is given
 abbrev pub is_given : Check → Bool

@@ -3,11 +3,12 @@ ghost use Rattle.std.specs.Prelude.{◌≡◌, IfOk, OnOk, filter_map, option_ma
 ghost use Rattle.std.specs.List.{list_all, list_any};
 ghost use Rattle.text_tables.specs.Texts.{with_texts};
 ghost use Rattle.builtin_link.specs.Checks.{address_check, check_of, is_for, is_given, is_met, is_unknown, known_check, lacked_word, lacked_words};
-ghost use Rattle.builtin_link.specs.Checks.{lacking_check};
+ghost use Rattle.builtin_link.specs.Checks.{kind_check, lacking_check, told_check};
 ghost use Rattle.builtin_link.specs.Checks.{may_be_for, one_of_check, property_check, text_check, word_of};
 
 use crate::addresses::{are_addresses, has_address};
 use crate::globs::{are_true_of, passes_if};
+use builtin_devices::some_text;
 use std::alloc::{AllocError, Global};
 use text_bytes::Bytes;
 use text_tables::{CowPairs, OwnedTexts};
@@ -87,6 +88,16 @@ impl Check {
         if holds { Check::Holds } else { Check::Fails }
     }
 
+    /// The check of a condition, by whether it holds, if the block tells that.
+    pub(crate) fn told(need: Need, holds: Option<bool>) -> Check
+        ensures { result ≡ told_check need holds }
+    {
+        match holds {
+            Some(holds) => Check::of(holds),
+            None => Check::Lacks(need),
+        }
+    }
+
     /// Whether the key is given.
     fn is_given(self) -> bool
         ensures { result ≡ is_given self }
@@ -157,6 +168,21 @@ pub(crate) fn known_check(
         Some(text) => text_check(alloc, words, Some(text)),
         None if words.is_empty() => Ok(Check::Absent),
         None => Ok(Check::Lacks(need)),
+    }
+}
+
+/// Whether the kind of an interface fits the words that are given for it: an empty kind is none.
+#[tactic(auto, unfolding(crate::specs::Checks::kind_check))]
+pub(crate) fn kind_check(
+    alloc: Global,
+    words: &[Bytes],
+    kind: Option<&[u8]>,
+) -> Result<Check, AllocError>
+    ensures { IfOk result (λ check. check ≡ kind_check words.now (option_map (λ t. t.now) kind.entry)) }
+{
+    match kind {
+        Some(kind) => text_check(alloc, words, some_text(Some(kind))),
+        None => known_check(alloc, Need::Kind, words, None),
     }
 }
 

@@ -1,17 +1,20 @@
 //! What the keys of `[Match]` say about an interface.
-ghost use Rattle.std.specs.Prelude.{◌≡◌, ◌++◌, IfOk, None, OnOk, Some, codes, map, option_map};
+ghost use Rattle.std.specs.Prelude.{◌≡◌, ◌++◌, IfOk, OnOk, Some, codes, map, option_map};
 ghost use Rattle.text_links.specs.Kernels.{kernel_name};
 ghost use Rattle.text_tables.specs.Pairs.{value_of};
 ghost use Rattle.builtin_devices.specs.Devices.{attribute};
 ghost use Rattle.link_files.specs.Lists.{list_of};
 ghost use Rattle.link_files.specs.declared.words.WordKind.TheVariants.{Glob, Name, Plain, Property};
-ghost use Rattle.builtin_link.specs.Checks.{address_check, checks_of, condition_check, kind_checks, known_check, name_checks, permanent_address};
+ghost use Rattle.builtin_link.specs.Checks.{address_check, checks_of, condition_check, kind_check, kind_checks, known_check, name_checks, permanent_address};
 ghost use Rattle.builtin_link.specs.Checks.{property_check, text_check};
 ghost use Rattle.builtin_link.specs.Hardware.{type_text};
-ghost use Rattle.builtin_link.specs.declared.checks.Need.TheVariants.{Address, Driver, Hardware, Kind, PermanentAddress};
+ghost use Rattle.builtin_link.specs.declared.checks.Need.TheVariants.{Address, Driver, Hardware, PermanentAddress};
 
-use crate::checks::{Check, Need, address_check, known_check, property_check, text_check};
+use crate::checks::{
+    Check, Need, address_check, kind_check, known_check, property_check, text_check,
+};
 use crate::hardware::type_text;
+use crate::machines::written_holds;
 use crate::numbers::own_number;
 use builtin_devices::{attribute, is_number};
 use device_core::Event;
@@ -31,7 +34,7 @@ const CONDITIONS: [(&[u8], Need); 7] = [
     (b"Firmware", Need::Firmware),
 ];
 
-/// The address of the hardware, if the block says that the one of the interface is it.
+/// The address of the hardware: that of the interface, if the block says that this is it, or else what the block says of it.
 #[tactic(auto, unfolding(crate::specs::Checks::permanent_address))]
 fn permanent_address<'a>(event: &Event<'a>) -> Option<&'a [u8]>
     ensures { option_map (λ t. t.now) result ≡ permanent_address event.now }
@@ -39,18 +42,19 @@ fn permanent_address<'a>(event: &Event<'a>) -> Option<&'a [u8]>
     if is_number(0, own_number(event, b"addr_assign_type")) {
         attribute(event.device(), b"address")
     } else {
-        None
+        event.constants().get(b"permaddr")
     }
 }
 
 /// A condition on the machine, by its key.
-fn condition_check(settings: &[Setting], key: &[u8], need: Need) -> Check
-    ensures { result ≡ condition_check settings.now (key.now, need) }
+fn condition_check(event: &Event<'_>, settings: &[Setting], key: &[u8], need: Need) -> Check
+    ensures { result ≡ condition_check event.now settings.now (key.now, need) }
 {
-    if last_of(MATCH, key, settings).is_empty() {
+    let value = last_of(MATCH, key, settings);
+    if value.is_empty() {
         Check::Absent
     } else {
-        Check::Lacks(need)
+        Check::told(need, written_holds(event, need, value))
     }
 }
 
@@ -107,12 +111,23 @@ fn type_check(alloc: Global, event: &Event<'_>, settings: &[Setting]) -> Result<
     known_check(alloc, Need::Hardware, &words, type_text(event))
 }
 
-/// Whether Kind is given, which no block tells.
-fn kind_check(alloc: Global, settings: &[Setting]) -> Result<Check, AllocError>
-    ensures { IfOk result (λ check. check ≡ known_check Kind (list_of Glob (codes "Kind") settings.now) None) }
+/// The kind of an interface, if the block tells it; empty if it has none.
+fn kind_of<'a>(event: &Event<'a>) -> Option<&'a [u8]>
+    ensures { option_map (λ t. t.now) result ≡ value_of event.now.constants (codes "kind") }
+{
+    event.constants().get(b"kind")
+}
+
+/// Whether the kind of an interface fits Kind.
+fn own_kind_check(
+    alloc: Global,
+    event: &Event<'_>,
+    settings: &[Setting],
+) -> Result<Check, AllocError>
+    ensures { IfOk result (λ check. check ≡ kind_check (list_of Glob (codes "Kind") settings.now) (value_of event.now.constants (codes "kind"))) }
 {
     let words = list_of(alloc, WordKind::Glob, b"Kind", settings)?;
-    known_check(alloc, Need::Kind, &words, None)
+    kind_check(alloc, &words, kind_of(event))
 }
 
 /// Whether the address of an interface is one of MACAddress.
@@ -174,7 +189,7 @@ fn kind_checks(
     ensures { IfOk result (λ checks. checks ≡ kind_checks event.now env.now settings.now) }
 {
     let hardware = type_check(alloc, event, settings)?;
-    let kind = kind_check(alloc, settings)?;
+    let kind = own_kind_check(alloc, event, settings)?;
     let address = own_address_check(alloc, event, settings)?;
     let permanent = permanent_check(alloc, event, settings)?;
     let property = properties_check(alloc, env, settings)?;
@@ -183,15 +198,16 @@ fn kind_checks(
 
 /// Adds the conditions on the machine.
 fn add_conditions(
+    event: &Event<'_>,
     settings: &[Setting],
     conditions: &[(&[u8], Need)],
     checks: &mut Vec<Check>,
 ) -> Result<(), AllocError>
     ensures { OnOk result (checks.new.items
-        ≡ checks.old.items ++ map (condition_check settings.now) (map (λ condition. (condition.0.now, condition.1)) conditions.now)) }
+        ≡ checks.old.items ++ map (condition_check event.now settings.now) (map (λ condition. (condition.0.now, condition.1)) conditions.now)) }
 {
     for condition in conditions {
-        checks.push(condition_check(settings, condition.0, condition.1))?;
+        checks.push(condition_check(event, settings, condition.0, condition.1))?;
     }
     Ok(())
 }
@@ -208,6 +224,6 @@ pub(crate) fn checks_of(
 {
     let mut checks = Vec::from_slice(alloc, &name_checks(alloc, event, env, settings)?)?;
     checks.extend_from_slice(&kind_checks(alloc, event, env, settings)?)?;
-    add_conditions(settings, &CONDITIONS, &mut checks)?;
+    add_conditions(event, settings, &CONDITIONS, &mut checks)?;
     Ok(checks)
 }

@@ -8,6 +8,7 @@ mod hardware;
 mod keys;
 mod laws;
 mod link;
+mod machines;
 mod numbers;
 mod policies;
 

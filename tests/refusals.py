@@ -400,7 +400,7 @@ ROWS = [
         "C: add\nP: /a\n\nC: add\nP: /b\n", COMPARED, "[OLD] r.rules:1: V2 unknown key: FOO\n", status=1, each_byte=True),
     Row(
         "two roots compared as udev does, with an index", ["compare", "--udev", "--index", "a.index", "old", "new"],
-        {"a.index": INDEX, f"old/{RULES}": "", f"new/{RULES}": 'IMPORT{builtin}="hwdb abc"\n'}, "C: add\nP: /a\n", "event add /a\n+env K=V\n\n", status=1),
+        {"a.index": INDEX, f"old/{RULES}": "", f"new/{RULES}": 'IMPORT{builtin}="hwdb abc"\n'}, "C: add\nP: /a\nU: m\n", "event add /a\n+env K=V\n\n", status=1),
     Row(
         "a faulty block after a difference", ["compare", "old", "new"], {f"old/{RULES}": "", f"new/{RULES}": 'TAG+="a"\n'},
         "C: add\nP: /a\n\nC: add\n", "event add /a\n+tag a\n\n", line="block 2, line 1: no device\n", status=1),

@@ -1,11 +1,14 @@
 """Notes about a block itself, which an answer of `--udev` has: an action that udev does not have, a path with `/sys` at its
-start, under `add` a property that udev stores later, and a property of the farthest parent behind commands.
+start, under `add` a property that udev stores later, and a property of the farthest parent behind commands. The blocks have `U: m`
+but for those of BARE, at which no rule is tried.
 
 What is wanted follows from docs/behaviour.md; nothing here was taken from the program.
 """
+import json
+
 from tables.kinds.answered import escaped
 from tables.kinds.compared import NEW, OLD, placed
-from tables.kinds.row import Row, as_bytes
+from tables.kinds.row import Read, Row, as_bytes
 
 STORED = "USEC_INITIALIZED"
 STORED_NOTE = f"note -: stored by udev: {STORED}"
@@ -25,13 +28,15 @@ def late(name):
 
 def block(action, path, *lines):
     """A block of an action at a path, with these lines."""
-    return b"".join(as_bytes(line) + b"\n" for line in (f"C: {action}", f"P: {path}", *lines)) + b"\n"
+    return b"".join(as_bytes(line) + b"\n" for line in (f"C: {action}", f"P: {path}", "U: m", *lines)) + b"\n"
 
 
 def answer(action, path, *lines):
-    """The answer to it, with these lines in addition to the event, ACTION and DEVPATH."""
-    own = [b"event %s %s" % (escaped(action), escaped(path)), b"env ACTION=" + escaped(action), b"env DEVPATH=" + escaped(path)]
-    return b"".join(line + b"\n" for line in [*own, *(as_bytes(line) for line in lines)]) + b"\n"
+    """The answer to it, with these lines in addition to the event, ACTION, DEVPATH and SUBSYSTEM."""
+    own = [b"event %s %s" % (escaped(action), escaped(path)), b"env ACTION=" + escaped(action), b"env DEVPATH=" + escaped(path), b"env SUBSYSTEM=m"]
+    said = [*own, *(as_bytes(line) for line in lines)]
+    properties = sorted(line for line in said if line.startswith(b"env "))
+    return b"".join(line + b"\n" for line in [said[0], *properties, *(line for line in said[1:] if line not in properties)]) + b"\n"
 
 
 def noted(name, *asked, rules="", words=("--udev",)):
@@ -84,11 +89,39 @@ TOGETHER = [
     noted("a misplaced property comes last", ("plug", "/sys/d", ["P: /sys", "Q: x", "R: 0", "E: A=1"], [unknown("plug"), misplaced("/sys/d"), late("A")])),
     noted("by the manual there are none", ("add", "/a/d", [*PARENT, "E: A=1"], []), ("plug", "/sys/d", [], []), ("add", "/sys/d", [f"E: {STORED}=7"], [f"env {STORED}=7"]), words=()),
     Row("with --sources they stay as they are", "events --udev --sources -r none r.rules", {"r.rules": 'TAG+="t", IMPORT{db}!="A"\n'}, block("plug", "/d"),
-        f"event plug /d\nr.rules:1: tag t\n-: env ACTION=plug\n-: env DEVPATH=/d\n{unknown('plug')}\nnote r.rules:1: import not run: db\n\n"),
+        f"event plug /d\nr.rules:1: tag t\n-: env ACTION=plug\n-: env DEVPATH=/d\n-: env SUBSYSTEM=m\n{unknown('plug')}\nnote r.rules:1: import not run: db\n\n"),
     Row("with --why they come before what rules met", "events --udev --why r.rules:1 -r none r.rules", {"r.rules": 'KERNEL=="d", TAG+="t"\n'}, block("plug", "/d"),
-        f"event plug /d\ntag t\nenv ACTION=plug\nenv DEVPATH=/d\n{unknown('plug')}\nwhy r.rules:1: KERNEL==\"d\": holds, d\nwhy r.rules:1: reached its end: tag t added\n\n"),
+        f"event plug /d\ntag t\nenv ACTION=plug\nenv DEVPATH=/d\nenv SUBSYSTEM=m\n{unknown('plug')}\nwhy r.rules:1: KERNEL==\"d\": holds, d\nwhy r.rules:1: reached its end: tag t added\n\n"),
     Row("with --questions there are none", "events --udev --questions -r none r.rules", {"r.rules": ""}, block("plug", "/sys/d"), "event plug /sys/d\n\n"),
     Row("compare leaves them out", f"compare --udev {OLD} {NEW}", {placed(OLD): "", placed(NEW): 'TAG+="t"\n'}, block("plug", "/sys/d"), "event plug /sys/d\n+tag t\n\n", status=1),
 ]
 
-ROWS = ACTIONS + PATHS + STORES + BEHIND + TOGETHER
+# A rule that is met at every device, and what is said of one without a subsystem.
+MET = 'TAG+="t", RUN+="r", PROGRAM!="/p"\n'
+LACKS = "note -: no subsystem, so no rule is tried: /d"
+
+
+def bare(name, words, output, action="add", status=0, **files):
+    """A run of this rule over a device without a subsystem, with a property."""
+    return Row(name, words, {"r.rules": MET, **files}, f"C: {action}\nP: /d\nE: B=1\n\n", output, status=status)
+
+
+BARE = [
+    *(bare(f"no rule is tried at a device without a subsystem, on {action}", "events --udev -r none r.rules",
+           f"event {action} /d\nenv ACTION={action}\nenv B=1\nenv DEVPATH=/d\n{LACKS}\n\n", action) for action in "add change move online offline bind unbind".split()),
+    bare("rules are tried as it is removed", "events --udev -r none r.rules",
+         "event remove /d\ntag t\nenv ACTION=remove\nenv B=1\nenv DEVPATH=/d\nrun program r\nnote r.rules:1: no answer for program: /p\n\n", "remove"),
+    bare("by the manual they are tried", "events -r none r.rules",
+         "event add /d\ntag t\nenv ACTION=add\nenv B=1\nenv DEVPATH=/d\nrun program r\nnote r.rules:1: no answer for program: /p\n\n"),
+    bare("with --sources", "events --udev --sources -r none r.rules", f"event add /d\n-: env ACTION=add\n-: env B=1\n-: env DEVPATH=/d\n{LACKS}\n\n"),
+    bare("--why says nothing of a rule that is not tried", "events --udev --why r.rules -r none r.rules", f"event add /d\nenv ACTION=add\nenv B=1\nenv DEVPATH=/d\n{LACKS}\n\n"),
+    bare("it asks nothing", "events --udev --questions -r none r.rules", "event add /d\n\n"),
+    bare("it reaches no rule", "events --udev --unused -r none r.rules",
+         f"event add /d\nenv ACTION=add\nenv B=1\nenv DEVPATH=/d\n{LACKS}\n\nunused r.rules:1: not reached\n"),
+    bare("as JSON", "events --udev --format=json -r none r.rules", Read(json.loads, {
+        "event": "add", "path": "/d", "labels": [], "links": [], "tags": [], "env": {"ACTION": "add", "B": "1", "DEVPATH": "/d"}, "attr": {}, "sysctl": {}, "run": [],
+        "notes": [{"text": "no subsystem, so no rule is tried", "word": "/d"}], "why": []})),
+    bare("compare finds no difference at it", f"compare --udev {OLD} {NEW}", "", **{placed(OLD): "", placed(NEW): 'TAG+="t"\n'}),
+]
+
+ROWS = ACTIONS + PATHS + STORES + BEHIND + TOGETHER + BARE

@@ -177,7 +177,7 @@ SOURCED = [
         placed(NEW, "note a.rules"): '\nIMPORT{db}!="B", TAG+="u"\n'}, block(D), START + "-note a.rules:1: tag t\n+note a.rules:2: tag u\n\n", status=1),
     Row("sources in an object", ["compare", "--sources", "--format=json", OLD, NEW], MOVED, block(D),
         f'{{"event":"add","path":"{D}","gone":["r.rules:1: mode 0620","r.rules:1: link a"],"come":["r.rules:4: mode 0600","r.rules:3: link c"]}}\n', status=1),
-    Row("each root has its own file", ["compare", "--sources", "--udev", OLD, NEW], {placed(OLD, "a.rules"): 'TAG+="t"\n', placed(NEW, "b.rules"): 'TAG+="u"\n'}, block(D),
+    Row("each root has its own file", ["compare", "--sources", "--udev", OLD, NEW], {placed(OLD, "a.rules"): 'TAG+="t"\n', placed(NEW, "b.rules"): 'TAG+="u"\n'}, block(D, "U: m"),
         START + "-a.rules:1: tag t\n+b.rules:1: tag u\n\n", status=1),
 ]
 

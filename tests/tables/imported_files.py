@@ -8,14 +8,14 @@ from tables.kinds.row import FOLDER, PIPE, Link, Moded, Row
 from tables.kinds.why import of
 
 RULE = 'IMPORT{file}=="/run/x", ENV{YES}="1"\nIMPORT{file}!="/run/x", ENV{NO}="1"\n'
-BLOCK = "C: add\nP: /devices/x\n"
+BLOCK = "C: add\nP: /devices/x\nU: m\n"
 MOST = 65_536
 ROOT_NOTE = "devdry: mnt: its rules are not read beside a FILE that is named: --with FILE reads FILE among them\n"
 
 
 def answer(*lines):
     """The answer with these properties, and after these the notes on rules of r.rules."""
-    env = sorted([*(line for line in lines if not line.startswith("note ")), "ACTION=add", "DEVPATH=/devices/x"])
+    env = sorted([*(line for line in lines if not line.startswith("note ")), "ACTION=add", "DEVPATH=/devices/x", "SUBSYSTEM=m"])
     notes = [line for line in lines if line.startswith("note ")]
     return "event add /devices/x\n" + "".join(f"env {line}\n" for line in env) + "".join(f"{line}\n" for line in notes) + "\n"
 

@@ -32,8 +32,8 @@ MEMBERS = [
     in_json("commands", ['RUN+="/bin/a b", RUN{builtin}+="kmod load"'],
             ([], {"run": [{"type": "program", "command": "/bin/a b"}, {"type": "builtin", "command": "kmod load"}]})),
     in_json("a note", ['IMPORT{builtin}="path_id"'], ([], {"notes": [{"file": "r.rules", "line": 1, "text": "builtin not run", "word": "path_id"}]})),
-    in_json("a note about the block", [], (["E: USEC_INITIALIZED=5"], {
-        "env": {"USEC_INITIALIZED": "5"}, "notes": [{"text": "stored by udev", "word": "USEC_INITIALIZED"}]}), words=["--udev"]),
+    in_json("a note about the block", [], (["U: m", "E: USEC_INITIALIZED=5"], {
+        "env": {"SUBSYSTEM": "m", "USEC_INITIALIZED": "5"}, "notes": [{"text": "stored by udev", "word": "USEC_INITIALIZED"}]}), words=["--udev"]),
 ]
 
 TEXTS = [

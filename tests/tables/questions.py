@@ -5,7 +5,7 @@ What is wanted follows the reference, docs/behaviour.md; nothing here was taken 
 from tables.kinds.index_bytes import WITH_FILE
 from tables.kinds.row import Row, as_bytes
 
-BARE = "C: add\nP: /d\n"
+BARE = "C: add\nP: /d\nU: m\n"
 
 
 def asks(name, rules, *commands, block=BARE, options=""):
@@ -93,10 +93,10 @@ ROWS = [
     Row("no block, no answer", "events -r none --questions r.rules", RULE),
     Row("the event is escaped", "events -r none --questions r.rules", RULE, "C: a\\b\nP: /d\n", "event a\\x5Cb /d\nQ: /bin/id d\n\n"),
     Row("a copied question with its status filled in", "events -r none r.rules", RULE, FILLED,
-        "event add /d\nenv A=ab\nenv ACTION=add\nenv DEVPATH=/d\n\n"),
-    Row("a copied question without a status", "events -r none r.rules", RULE, UNFILLED, messages="block 1, line 3: pair\n", status=1),
+        "event add /d\nenv A=ab\nenv ACTION=add\nenv DEVPATH=/d\nenv SUBSYSTEM=m\n\n"),
+    Row("a copied question without a status", "events -r none r.rules", RULE, UNFILLED, messages="block 1, line 4: pair\n", status=1),
     Row("a copied question without a status is not asked again", "events -r none --questions r.rules", RULE, BARE + "\n" + UNFILLED,
-        "event add /d\nQ: /bin/id d\n\n", "block 2, line 3: pair\n", 1),
+        "event add /d\nQ: /bin/id d\n\n", "block 2, line 4: pair\n", 1),
     Row("messages come first", "events -r none --questions r.rules", {"r.rules": 'FOO="1"\nPROGRAM=="/bin/a"\n'}, BARE,
         "event add /d\nQ: /bin/a\n\n", "r.rules:1: V2 unknown key: FOO\n"),
     Row("rules and a database of folders", "events --questions -r mnt", {

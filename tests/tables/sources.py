@@ -140,9 +140,9 @@ CHANGES = [
     comes("labels, one of which is replaced", ['SECLABEL{a}="x"', 'SECLABEL{b}="y"', 'SECLABEL{a}+="x"'], [],
           "r.rules:2: label b=y", "r.rules:3: label a=x"),
     Row("labels of one module with --udev", "events --udev -r none --sources r.rules",
-        {"r.rules": 'SECLABEL{a}+="x"\nSECLABEL{a}+="y"\nSECLABEL{b}+="x"\nSECLABEL{a}+="x"\n'}, BARE + "N: d\nD: 1:1\n",
+        {"r.rules": 'SECLABEL{a}+="x"\nSECLABEL{a}+="y"\nSECLABEL{b}+="x"\nSECLABEL{a}+="x"\n'}, BARE + "U: m\nN: d\nD: 1:1\n",
         "event add /d\nr.rules:1: label a=x\nr.rules:2: label a=y\nr.rules:3: label b=x\nr.rules:1: label a=x\n"
-        "-: env ACTION=add\n-: env DEVNAME=/dev/d\n-: env DEVPATH=/d\n-: env MAJOR=1\n-: env MINOR=1\n\n"),
+        "-: env ACTION=add\n-: env DEVNAME=/dev/d\n-: env DEVPATH=/d\n-: env MAJOR=1\n-: env MINOR=1\n-: env SUBSYSTEM=m\n\n"),
     sources("attributes and kernel parameters, also empty ones", ['ATTR{a}="1", SYSCTL{s}="1"', 'ATTR{a}="", SYSCTL{s}="1"', 'ATTR{a}=""'],
             [], STARTED + "r.rules:2: attr a=\nr.rules:1: sysctl s=1\n"),
     comes("a rule that stops sets nothing", ['ENV{A}="1"', 'KERNEL=="x", ENV{A}="2"', 'KERNEL=="d", ENV{A}="1"'], [], "r.rules:1: env A=1"),

@@ -149,7 +149,7 @@ MANUAL = [
 QUESTIONS = [
     asks("builtins that are not computed, with --udev", 'IMPORT{builtin}!="blkid --noraid"\nIMPORT{program}!="net_driver"\nIMPORT{builtin}!="path_id"\nIMPORT{builtin}!="kmod load x"\n'
          'IMPORT{builtin}!="hwdb usb:v1"\n', "builtin blkid --noraid", "builtin net_driver", options="--udev"),
-    asks("a builtin with an answer", 'IMPORT{builtin}!="blkid"\nIMPORT{builtin}!="btrfs"\n', "builtin btrfs", block="C: add\nP: /d\nQ: builtin blkid\nR: 2\n", options="--udev"),
+    asks("a builtin with an answer", 'IMPORT{builtin}!="blkid"\nIMPORT{builtin}!="btrfs"\n', "builtin btrfs", block="C: add\nP: /d\nU: m\nQ: builtin blkid\nR: 2\n", options="--udev"),
     asks("builtins without --udev", 'IMPORT{builtin}!="blkid"\n'),
 ]
 
@@ -170,10 +170,10 @@ WHY = [
 ]
 
 SOURCED = [
-    Row("a note on an attribute of another device beside sources", "events --udev -r none --sources r.rules", {"r.rules": 'TAG+="t$attr{[d/i]m}"\n'}, "C: add\nP: /d\n",
-        "event add /d\nr.rules:1: tag t\n-: env ACTION=add\n-: env DEVPATH=/d\nnote r.rules:1: attribute not read: [d/i]m\n\n"),
+    Row("a note on an attribute of another device beside sources", "events --udev -r none --sources r.rules", {"r.rules": 'TAG+="t$attr{[d/i]m}"\n'}, "C: add\nP: /d\nU: m\n",
+        "event add /d\nr.rules:1: tag t\n-: env ACTION=add\n-: env DEVPATH=/d\n-: env SUBSYSTEM=m\nnote r.rules:1: attribute not read: [d/i]m\n\n"),
     *(in_json(f"a note on an attribute of another device, as JSON{' with sources' * sourced}", ['TAG+="t$attr{[d/i]m}"', 'CONST{virt}!="kvm", TAG+="v"'],
-              ([], {"tags": [{"value": tag, "file": "r.rules", "line": number} if sourced else tag for tag, number in (("t", 1), ("v", 2))],
+              (["U: m"], {"env": {"SUBSYSTEM": {"value": "m"} if sourced else "m"}, "tags": [{"value": tag, "file": "r.rules", "line": number} if sourced else tag for tag, number in (("t", 1), ("v", 2))],
                     "notes": [{"file": "r.rules", "line": 2, "text": "constant not given", "word": "virt"},
                               {"file": "r.rules", "line": 1, "text": "attribute not read", "word": "[d/i]m"}]}),
               words=["--udev", *["--sources"] * sourced], sourced=sourced) for sourced in (False, True)),

@@ -48,9 +48,9 @@ RULES = [
     unused("without rules there is no line", [], [A]),
     unused("a rule without keys is met where it is reached", ['ENV{B}="1"'], [("/a", [], ["env B=1"])]),
     unused("a rule is met although it assigns nothing", ['KERNEL=="a"'], [A]),
-    unused("a rule that udev skips is met if all its keys hold", [f'KERNEL=="{name}", OPTIONS="static_node=x"' for name in "ab"] + ['LABEL="l"'], [A],
+    unused("a rule that udev skips is met if all its keys hold", [f'KERNEL=="{name}", OPTIONS="static_node=x"' for name in "ab"] + ['LABEL="l"'], [("/a", ["U: m"], ["env SUBSYSTEM=m"])],
            '2: KERNEL=="b" failed 1 of 1', words="--udev"),
-    unused("a rule that udev does not keep has no line", ['KERNEL=="b"'], [A], words="--udev", messages=b"r.rules:1: V18 rule without effect\n"),
+    unused("a rule that udev does not keep has no line", ['KERNEL=="b"'], [("/a", ["U: m"], ["env SUBSYSTEM=m"])], words="--udev", messages=b"r.rules:1: V18 rule without effect\n"),
 ]
 
 KEYS = [

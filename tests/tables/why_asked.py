@@ -195,8 +195,8 @@ FIRST = [
 ROWS = [
     Row("a rule that compares attributes of two parents", "events -r none --why 99-mine.rules:2 99-mine.rules", MINE, ADAPTER, ADAPTER_ANSWER),
     Row("rules that --udev drops", "events --udev -r none --why r.rules r.rules",
-        {"r.rules": 'ENV{DEVNAME}="x"\nKERNEL=="d"\nENV{B}="1"\n'}, BARE,
-        START + "env ACTION=add\nenv B=1\nenv DEVPATH=/d\n"
+        {"r.rules": 'ENV{DEVNAME}="x"\nKERNEL=="d"\nENV{B}="1"\n'}, BARE + "U: m\n",
+        START + "env ACTION=add\nenv B=1\nenv DEVPATH=/d\nenv SUBSYSTEM=m\n"
         + "why r.rules:1: not read: V13 reserved property: DEVNAME\nwhy r.rules:2: not read: V18 rule without effect\n"
         + "why r.rules:3: reached its end: env B=1 set\n\n",
         "r.rules:1: V13 reserved property: DEVNAME\nr.rules:2: V18 rule without effect\n"),

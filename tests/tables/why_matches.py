@@ -295,7 +295,7 @@ ROWS = [
         of(2, 'ATTRS{x%b}=="1": d holds', "d meets all", "reached its end: env B=1 set"),
         of(3, 'ATTR{$kernel}!="x": fails, x', "stops there"),
         of(4, 'ATTR{y%k}!="x": fails, none', "stops there"),
-        options=["--udev"]),
+        udev=True),
     why("an attribute's name is escaped", ['ATTR{a\\b}!="1"'], [], [],
         of(1, 'ATTR{a\\x5Cb}!="1": holds, none', "reached its end")),
     why("a text of the event is escaped", ['ENV{.X}=="?*"'], ["E: .X=a\t\\b\x7f\u00E4"], [],

@@ -14,9 +14,10 @@ use Rattle.text_tables.specs.Pairs.{value_of}
 use Rattle.text_bytes.specs.Texts.{is_empty}
 use Rattle.device_core.specs.Values.{DeviceValue, EventValue}
 use Rattle.device_notes.specs.Laws.{IsNoneOf, notes_of, same_kind}
+use Rattle.device_notes.specs.Tried.{lacks_event, lacks_event_by}
 use Rattle.device_notes.specs.Notes.{begins_with_sys, block_notes, is_behind_commands, is_filled, is_stored_by_udev, is_unknown_action, note_about, note_if, notes_by}
 use Rattle.device_notes.specs.declared.kinds.BlockNoteKind.{BlockNoteKind}
-use Rattle.device_notes.specs.declared.kinds.BlockNoteKind.TheVariants.{BehindCommands, PathBeginsWithSys, StoredByUdev, UnknownAction}
+use Rattle.device_notes.specs.declared.kinds.BlockNoteKind.TheVariants.{BehindCommands, NoSubsystem, PathBeginsWithSys, StoredByUdev, UnknownAction}
 use Rattle.device_notes.specs.declared.notes.BlockNote.{BlockNote}
 
 -- the notes, by what is so
@@ -65,9 +66,30 @@ module _ (a b c d : Bool) (u v w x : Text) where
       parts BehindCommands (note_if a UnknownAction u) (note_if b PathBeginsWithSys v) (note_if c StoredByUdev w) (note_if d BehindCommands x)
       ∙ (λ i. none_other BehindCommands UnknownAction refl a u i ++ none_other BehindCommands PathBeginsWithSys refl b v i ++ none_other BehindCommands StoredByUdev refl c w i ++ mine BehindCommands refl d x i)
 
-  in_order_by : four a b c d u v w x
-      ≡ of_kind UnknownAction (four a b c d u v w x) ++ of_kind PathBeginsWithSys (four a b c d u v w x) ++ of_kind StoredByUdev (four a b c d u v w x) ++ of_kind BehindCommands (four a b c d u v w x)
-  in_order_by = sym (λ i. action_alone i ++ path_alone i ++ stored_alone i ++ behind_alone i)
+  no_other : of_kind NoSubsystem (four a b c d u v w x) ≡ []
+  no_other =
+      parts NoSubsystem (note_if a UnknownAction u) (note_if b PathBeginsWithSys v) (note_if c StoredByUdev w) (note_if d BehindCommands x)
+      ∙ (λ i. none_other NoSubsystem UnknownAction refl a u i ++ none_other NoSubsystem PathBeginsWithSys refl b v i ++ none_other NoSubsystem StoredByUdev refl c w i ++ none_other NoSubsystem BehindCommands refl d x i)
+
+-- the notes of an event that are not about its subsystem
+abbrev four_of : EventValue → List BlockNote
+four_of event =
+    four (is_unknown_action event.action) (begins_with_sys event.device.path) (is_stored_by_udev event) (is_behind_commands event)
+    event.action event.device.path (codes "USEC_INITIALIZED") (unwrap_or event.misplaced [])
+
+-- the note about the subsystem is of no other kind
+among_five : (kind : BlockNoteKind) (event : EventValue) (notes : List BlockNote) → same_kind kind NoSubsystem ≡ false → of_kind kind (four_of event) ≡ notes → of_kind kind (notes_by Udev event) ≡ notes
+among_five kind event notes differs alone =
+    filter-append (λ note. same_kind kind note.kind) (four_of event) (note_if (lacks_event event) NoSubsystem event.device.path)
+    ∙ (λ i. alone i ++ none_other kind NoSubsystem differs (lacks_event event) event.device.path i)
+    ∙ append-nil notes
+
+event_alone : (event : EventValue) → of_kind NoSubsystem (notes_by Udev event) ≡ note_if (lacks_event event) NoSubsystem event.device.path
+event_alone event =
+    filter-append (λ note. same_kind NoSubsystem note.kind) (four_of event) (note_if (lacks_event event) NoSubsystem event.device.path)
+    ∙ (λ i. no_other (is_unknown_action event.action) (begins_with_sys event.device.path) (is_stored_by_udev event) (is_behind_commands event)
+    event.action event.device.path (codes "USEC_INITIALIZED") (unwrap_or event.misplaced []) i
+    ++ mine NoSubsystem refl (lacks_event event) event.device.path i)
 
 -- a kind's notes by both profiles
 module _ (kind : BlockNoteKind) (text : Text) where
@@ -94,8 +116,8 @@ action_notes event = by event.profile
   where
     by : (profile : Profile) → of_kind UnknownAction (notes_by profile event) ≡ note_if (so_by profile (is_unknown_action event.action)) UnknownAction event.action
     by Manual = refl
-    by Udev = action_alone (is_unknown_action event.action) (begins_with_sys event.device.path) (is_stored_by_udev event) (is_behind_commands event)
-        event.action event.device.path (codes "USEC_INITIALIZED") (unwrap_or event.misplaced [])
+    by Udev = among_five UnknownAction event _ refl (action_alone (is_unknown_action event.action) (begins_with_sys event.device.path) (is_stored_by_udev event) (is_behind_commands event)
+        event.action event.device.path (codes "USEC_INITIALIZED") (unwrap_or event.misplaced []))
 
 pub path_notes : (event : EventValue) → notes_of PathBeginsWithSys event ≡ note_if (so_by event.profile (begins_with_sys event.device.path)) PathBeginsWithSys event.device.path
 unfolding block_notes
@@ -103,8 +125,8 @@ path_notes event = by event.profile
   where
     by : (profile : Profile) → of_kind PathBeginsWithSys (notes_by profile event) ≡ note_if (so_by profile (begins_with_sys event.device.path)) PathBeginsWithSys event.device.path
     by Manual = refl
-    by Udev = path_alone (is_unknown_action event.action) (begins_with_sys event.device.path) (is_stored_by_udev event) (is_behind_commands event)
-        event.action event.device.path (codes "USEC_INITIALIZED") (unwrap_or event.misplaced [])
+    by Udev = among_five PathBeginsWithSys event _ refl (path_alone (is_unknown_action event.action) (begins_with_sys event.device.path) (is_stored_by_udev event) (is_behind_commands event)
+        event.action event.device.path (codes "USEC_INITIALIZED") (unwrap_or event.misplaced []))
 
 pub stored_notes : (event : EventValue) → notes_of StoredByUdev event ≡ note_if (so_by event.profile (is_stored_by_udev event)) StoredByUdev (codes "USEC_INITIALIZED")
 unfolding block_notes
@@ -112,8 +134,8 @@ stored_notes event = by event.profile
   where
     by : (profile : Profile) → of_kind StoredByUdev (notes_by profile event) ≡ note_if (so_by profile (is_stored_by_udev event)) StoredByUdev (codes "USEC_INITIALIZED")
     by Manual = refl
-    by Udev = stored_alone (is_unknown_action event.action) (begins_with_sys event.device.path) (is_stored_by_udev event) (is_behind_commands event)
-        event.action event.device.path (codes "USEC_INITIALIZED") (unwrap_or event.misplaced [])
+    by Udev = among_five StoredByUdev event _ refl (stored_alone (is_unknown_action event.action) (begins_with_sys event.device.path) (is_stored_by_udev event) (is_behind_commands event)
+        event.action event.device.path (codes "USEC_INITIALIZED") (unwrap_or event.misplaced []))
 
 pub behind_notes : (event : EventValue) → notes_of BehindCommands event ≡ note_if (so_by event.profile (is_behind_commands event)) BehindCommands (unwrap_or event.misplaced [])
 unfolding block_notes
@@ -121,8 +143,8 @@ behind_notes event = by event.profile
   where
     by : (profile : Profile) → of_kind BehindCommands (notes_by profile event) ≡ note_if (so_by profile (is_behind_commands event)) BehindCommands (unwrap_or event.misplaced [])
     by Manual = refl
-    by Udev = behind_alone (is_unknown_action event.action) (begins_with_sys event.device.path) (is_stored_by_udev event) (is_behind_commands event)
-        event.action event.device.path (codes "USEC_INITIALIZED") (unwrap_or event.misplaced [])
+    by Udev = among_five BehindCommands event _ refl (behind_alone (is_unknown_action event.action) (begins_with_sys event.device.path) (is_stored_by_udev event) (is_behind_commands event)
+        event.action event.device.path (codes "USEC_INITIALIZED") (unwrap_or event.misplaced []))
 
 -- where a property stands behind commands, that is so exactly if there is a parent
 pub behind_is : (event : EventValue) (name : Text) → event.misplaced ≡ Some name → (is_behind_commands event ≡ true) ↔ (event.parents ≢ [])
@@ -196,15 +218,42 @@ stored_is event = by (same_text event.action (codes "add")) refl (filled_is (val
     by true e filled = ((λ h. ((bytes_decides event.action (codes "add")).0 e, filled.0 h)), λ found. filled.1 found.1)
     by false e filled = ((λ h. absurd (true≢false (sym h))), λ found. absurd (true≢false (sym ((bytes_decides event.action (codes "add")).1 found.0) ∙ e)))
 
-pub in_order : (event : EventValue) → block_notes event ≡ notes_of UnknownAction event ++ notes_of PathBeginsWithSys event ++ notes_of StoredByUdev event ++ notes_of BehindCommands event
+pub event_notes : (event : EventValue) → notes_of NoSubsystem event ≡ note_if (so_by event.profile (lacks_event event)) NoSubsystem event.device.path
+unfolding block_notes
+event_notes event = by event.profile
+  where
+    by : (profile : Profile) → of_kind NoSubsystem (notes_by profile event) ≡ note_if (so_by profile (lacks_event event)) NoSubsystem event.device.path
+    by Manual = refl
+    by Udev = event_alone event
+
+-- by the manual every device has events
+pub lacks_is : (event : EventValue) → so_by event.profile (lacks_event event) ≡ lacks_event event
+unfolding lacks_event
+lacks_is event = by event.profile
+  where
+    by : (profile : Profile) → so_by profile (lacks_event_by profile event) ≡ lacks_event_by profile event
+    by Manual = refl
+    by Udev = refl
+
+pub in_order : (event : EventValue) → block_notes event ≡ notes_of UnknownAction event ++ notes_of PathBeginsWithSys event ++ notes_of StoredByUdev event ++ notes_of BehindCommands event ++ notes_of NoSubsystem event
 unfolding block_notes
 in_order event = by event.profile
   where
     by : (profile : Profile) → notes_by profile event ≡ of_kind UnknownAction (notes_by profile event) ++ of_kind PathBeginsWithSys (notes_by profile event) ++ of_kind StoredByUdev (notes_by profile event)
-        ++ of_kind BehindCommands (notes_by profile event)
+        ++ of_kind BehindCommands (notes_by profile event) ++ of_kind NoSubsystem (notes_by profile event)
     by Manual = refl
-    by Udev = in_order_by (is_unknown_action event.action) (begins_with_sys event.device.path) (is_stored_by_udev event) (is_behind_commands event)
-        event.action event.device.path (codes "USEC_INITIALIZED") (unwrap_or event.misplaced [])
+    by Udev =
+        let a = is_unknown_action event.action in
+        let b = begins_with_sys event.device.path in
+        let c = is_stored_by_udev event in
+        let d = is_behind_commands event in
+        let w = codes "USEC_INITIALIZED" in
+        let x = unwrap_or event.misplaced [] in
+        sym (λ i. among_five UnknownAction event _ refl (action_alone a b c d event.action event.device.path w x) i
+        ++ among_five PathBeginsWithSys event _ refl (path_alone a b c d event.action event.device.path w x) i
+        ++ among_five StoredByUdev event _ refl (stored_alone a b c d event.action event.device.path w x) i
+        ++ among_five BehindCommands event _ refl (behind_alone a b c d event.action event.device.path w x) i
+        ++ event_alone event i)
 
 pub none_by_the_manual : (event : EventValue) → event.profile ≡ Manual → block_notes event ≡ []
 unfolding block_notes

@@ -1,2 +1,3 @@
+pub mod Tried
 pub mod Notes
 pub mod Laws

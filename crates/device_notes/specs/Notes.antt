@@ -10,7 +10,8 @@ use Rattle.text_tables.specs.Texts.{is_among, same_text}
 use Rattle.text_tables.specs.Pairs.{value_of}
 use Rattle.device_core.specs.Values.{EventValue}
 use Rattle.device_notes.specs.declared.kinds.BlockNoteKind.{BlockNoteKind}
-use Rattle.device_notes.specs.declared.kinds.BlockNoteKind.TheVariants.{BehindCommands, PathBeginsWithSys, StoredByUdev, UnknownAction}
+use Rattle.device_notes.specs.Tried.{lacks_event}
+use Rattle.device_notes.specs.declared.kinds.BlockNoteKind.TheVariants.{BehindCommands, NoSubsystem, PathBeginsWithSys, StoredByUdev, UnknownAction}
 use Rattle.device_notes.specs.declared.notes.BlockNote.{BlockNote}
 
 -- the text of each kind of note
@@ -19,6 +20,7 @@ text_of UnknownAction = codes "unknown action"
 text_of PathBeginsWithSys = codes "path begins with /sys"
 text_of StoredByUdev = codes "stored by udev"
 text_of BehindCommands = codes "misplaced property"
+text_of NoSubsystem = codes "no subsystem, so no rule is tried"
 
 -- the actions that udev has, as udevadm(8) lists them for `trigger --action`
 abbrev pub actions : List Text
@@ -62,6 +64,7 @@ udev_notes event =
     ++ note_if (begins_with_sys event.device.path) PathBeginsWithSys event.device.path
     ++ note_if (is_stored_by_udev event) StoredByUdev (codes "USEC_INITIALIZED")
     ++ note_if (is_behind_commands event) BehindCommands (unwrap_or event.misplaced [])
+    ++ note_if (lacks_event event) NoSubsystem event.device.path
 
 -- the notes about a block by a profile
 abbrev pub notes_by : Profile → EventValue → List BlockNote

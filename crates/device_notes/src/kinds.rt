@@ -15,6 +15,8 @@ pub enum BlockNoteKind {
     /// A property stands at the end of the block, behind commands, where it is one of the farthest parent; the word is the
     /// name of the property.
     BehindCommands,
+    /// The event device has no subsystem, and so no event but a removal: no rule is tried; the word is its path.
+    NoSubsystem,
 }
 
 impl BlockNoteKind {
@@ -27,6 +29,7 @@ impl BlockNoteKind {
             BlockNoteKind::PathBeginsWithSys => b"path begins with /sys",
             BlockNoteKind::StoredByUdev => b"stored by udev",
             BlockNoteKind::BehindCommands => b"misplaced property",
+            BlockNoteKind::NoSubsystem => b"no subsystem, so no rule is tried",
         }
     }
 }

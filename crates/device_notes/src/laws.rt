@@ -1,12 +1,13 @@
 //! What is true of the notes about a block. Each function here is empty: its contract is the law.
-ghost use Rattle.std.specs.Prelude.{◌≡◌, ◌≢◌, ◌↔◌, ◌⊎◌, ◌∷◌, ◌++◌, ℕ, [], None, Some, codes, unwrap_or};
+ghost use Rattle.std.specs.Prelude.{◌≡◌, ◌≢◌, ◌↔◌, ◌⊎◌, ◌∷◌, ◌++◌, ℕ, [], List, None, Some, codes, unwrap_or};
 ghost use Rattle.text_bytes.specs.declared.profile.Profile.TheVariants.{Manual, Udev};
 ghost use Rattle.text_bytes.specs.Text.{Text};
 ghost use Rattle.text_tables.specs.Pairs.{value_of};
 ghost use Rattle.device_core.specs.Values.{EventValue};
 ghost use Rattle.device_notes.specs.Laws.{IsNoneOf, notes_of};
 ghost use Rattle.device_notes.specs.Notes.{block_notes, note_about};
-ghost use Rattle.device_notes.specs.declared.kinds.BlockNoteKind.TheVariants.{BehindCommands, PathBeginsWithSys, StoredByUdev, UnknownAction};
+ghost use Rattle.device_notes.specs.Tried.{tried};
+ghost use Rattle.device_notes.specs.declared.kinds.BlockNoteKind.TheVariants.{BehindCommands, NoSubsystem, PathBeginsWithSys, StoredByUdev, UnknownAction};
 
 /// For udev the action of a block is noted if and only if it is none of the eight that udev has, and then once.
 pub fn an_action_that_udev_does_not_have_is_noted()
@@ -48,12 +49,31 @@ pub fn a_property_behind_commands_is_noted()
         ⊎ (notes_of BehindCommands event ≡ note_about BehindCommands (unwrap_or event.misplaced []) ∷ []) }
 {}
 
-/// The notes about a block are those of its action, of its path, of what udev stores and of properties behind commands, in this
-/// order.
+/// By the manual the rules of every event are tried. For udev they are if the device has a subsystem or is removed, and otherwise
+/// none is.
+pub fn no_rule_is_tried_at_a_device_without_a_subsystem()
+    ensures manual { (event : EventValue) (rules : List ℕ) → event.profile ≡ Manual → tried event rules ≡ rules }
+    ensures of_a_subsystem { (event : EventValue) (rules : List ℕ) (subsystem : Text) → event.device.subsystem ≡ Some subsystem
+        → tried event rules ≡ rules }
+    ensures removed { (event : EventValue) (rules : List ℕ) → event.action ≡ codes "remove" → tried event rules ≡ rules }
+    ensures none { (event : EventValue) (rules : List ℕ) → event.profile ≡ Udev → event.device.subsystem ≡ None
+        → event.action ≢ codes "remove" → tried event rules ≡ [] }
+{}
+
+/// A device at which no rule is tried is noted, once and by its path, and no other is.
+pub fn a_device_without_an_event_is_noted()
+    ensures noted { (event : EventValue) (rule : ℕ) → tried event (rule ∷ []) ≡ []
+        → notes_of NoSubsystem event ≡ note_about NoSubsystem event.device.path ∷ [] }
+    ensures none { (event : EventValue) (rule : ℕ) → tried event (rule ∷ []) ≢ [] → notes_of NoSubsystem event ≡ [] }
+{}
+
+/// The notes about a block are those of its action, of its path, of what udev stores, of properties behind commands and of a device
+/// without an event, in this order.
 pub fn notes_about_a_block_are_in_order()
     ensures { (event : EventValue)
         → block_notes event
-        ≡ notes_of UnknownAction event ++ notes_of PathBeginsWithSys event ++ notes_of StoredByUdev event ++ notes_of BehindCommands event }
+        ≡ notes_of UnknownAction event ++ notes_of PathBeginsWithSys event ++ notes_of StoredByUdev event ++ notes_of BehindCommands event
+        ++ notes_of NoSubsystem event }
 {}
 
 /// By the manual nothing about a block is noted.

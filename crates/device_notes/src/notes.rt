@@ -4,6 +4,7 @@ ghost use Rattle.device_notes.specs.Notes.{actions, begins_with_sys, block_notes
 ghost use Rattle.device_notes.specs.Notes.{is_stored_by_udev, is_unknown_action, note_if, udev_notes};
 
 use crate::kinds::BlockNoteKind;
+use crate::trying::lacks_event;
 use device_core::Event;
 use std::alloc::{AllocError, Global};
 use text_bytes::{Bytes, Profile, word_of};
@@ -117,6 +118,13 @@ fn udev_notes(alloc: Global, event: &Event<'_>) -> Result<Vec<BlockNote>, AllocE
         is_behind_commands(event),
         BlockNoteKind::BehindCommands,
         event.misplaced().unwrap_or(b""),
+    )?;
+    push_if(
+        alloc,
+        &mut notes,
+        lacks_event(event),
+        BlockNoteKind::NoSubsystem,
+        path,
     )?;
     Ok(notes)
 }

@@ -6,6 +6,7 @@ use Rattle.text_tables.specs.Pairs.{Pair}
 use Rattle.builtin_knowledge.specs.Knowledge.{Known}
 use Rattle.rule_types.specs.Rules.{Rule}
 use Rattle.device_core.specs.Values.{EventValue}
+use Rattle.device_notes.specs.Tried.{tried}
 use Rattle.eval_rules.specs.declared.outcome.Command.{Command}
 use Rattle.eval_rules.specs.declared.outcome.Outcome.{Outcome}
 use Rattle.eval_sources.specs.Sources.{Source, source_of}
@@ -37,9 +38,9 @@ answer_lines event outcome = lines_with (λ item. []) (flat_map run_line outcome
 abbrev pub answer : EventValue → Outcome → Text
 answer event outcome = answer_lines event outcome ++ newline ∷ []
 
--- the answer to an event by rules and what is known: its whole outcome, as lines
+-- the answer to an event by rules and what is known: the whole outcome of those that are tried, as lines
 abbrev pub answer_by : List Rule → Known → EventValue → Text
-answer_by rules known event = answer event (whole_outcome rules known event)
+answer_by rules known event = answer event (whole_outcome (tried event rules) known event)
 
 -- the lines of commands, each beside the rule that added it
 abbrev pub command_lines : List (Command × Rule) → List (Source × Text)
@@ -57,6 +58,6 @@ abbrev pub source_part : Source → Text
 source_part None = codes "-: "
 source_part (Some r) = place_of r.file r.line
 
--- the lines of the answer to an event, each after the place of the rule that it comes from
+-- the lines of the answer to an event by the rules that are tried, each after the place of the rule that it comes from
 abbrev pub sourced_lines : List Rule → Known → EventValue → Text
-sourced_lines rules known event = lines_by source_part rules known event
+sourced_lines rules known event = lines_by source_part (tried event rules) known event

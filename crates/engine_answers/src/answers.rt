@@ -1,6 +1,6 @@
 //! The whole answer.
 ghost use Rattle.std.specs.Prelude.{◌≡◌, ◌++◌, flat_map, None, IfOk, OnOk};
-ghost use Rattle.engine_answers.specs.Answers.{answer, answer_lines, command_lines, lines_after, lines_with, source_part, sourced_lines};
+ghost use Rattle.engine_answers.specs.Answers.{answer, answer_lines, command_lines, lines_after, lines_by, lines_with, source_part, sourced_lines};
 ghost use Rattle.engine_answers.specs.Lines.{block_note_line, block_note_lines, note_lines, run_line};
 ghost use Rattle.eval_sources.specs.Sources.{source_in};
 ghost use Rattle.eval_unread.specs.Others.{ask_others};
@@ -10,7 +10,7 @@ use crate::items::push_items;
 use crate::lines::{push_block_note, push_note, push_run};
 use builtin_knowledge::Knowledge;
 use device_core::Event;
-use device_notes::{BlockNote, block_notes};
+use device_notes::{BlockNote, block_notes, lacks_event};
 use engine_ends::push_event;
 use eval_rules::{Commands, Outcome};
 use eval_sources::{Sourced, SourcedCommand};
@@ -69,10 +69,14 @@ pub fn sourced_lines<K: Knowledge>(
     requires { asks ≡ ask_others rules.now }
     ensures { IfOk result (λ lines. lines.items ≡ sourced_lines rules.now (K.known knowledge.now) event.now) }
 {
-    lines_for(alloc, asks, rules, event, knowledge)
+    if lacks_event(event) {
+        lines_for(alloc, false, &[], event, knowledge)
+    } else {
+        lines_for(alloc, asks, rules, event, knowledge)
+    }
 }
 
-/// The same; rules and event are borrowed for the same lifetime.
+/// The same by rules that are all tried; rules and event are borrowed for the same lifetime.
 fn lines_for<'a, K: Knowledge>(
     alloc: Global,
     asks: bool,
@@ -81,7 +85,7 @@ fn lines_for<'a, K: Knowledge>(
     knowledge: &K,
 ) -> Result<Vec<u8>, AllocError>
     requires { asks ≡ ask_others rules.now }
-    ensures { IfOk result (λ lines. lines.items ≡ sourced_lines rules.now (K.known knowledge.now) event.now) }
+    ensures { IfOk result (λ lines. lines.items ≡ lines_by source_part rules.now (K.known knowledge.now) event.now) }
 {
     let found = evaluate_whole_sources(alloc, asks, rules, event, knowledge)?;
     let said = lines_of(alloc, event, &found);

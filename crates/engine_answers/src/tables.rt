@@ -1,14 +1,16 @@
 //! Rules, and what is known beyond an event, as one thing that answers events.
-ghost use Rattle.std.specs.Prelude.{◌≡◌, IfOk};
-ghost use Rattle.engine_answers.specs.Answers.{answer_by, sourced_lines};
+ghost use Rattle.std.specs.Prelude.{◌≡◌, IfOk, []};
+ghost use Rattle.engine_answers.specs.Answers.{answer, answer_by, sourced_lines};
+ghost use Rattle.eval_unread.specs.Unread.{whole_outcome};
 ghost use Rattle.eval_unread.specs.Others.{ask_others};
 
 use crate::answers::{answer, sourced_lines};
 use builtin_knowledge::Knowledge;
 use device_core::Event;
+use device_notes::lacks_event;
 use engine_sessions::Answering;
 use eval_core::{Program, compile};
-use eval_unread::{ask_others, with_unread};
+use eval_unread::{ask_others, evaluate_whole, with_unread};
 use rule_types::{Rule, RuleSet};
 use std::alloc::{AllocError, Global};
 use std::marker::Model;
@@ -82,6 +84,39 @@ impl<K: Knowledge> Tables<K> {
     }
 }
 
+/// The answer to an event at which no rule is tried.
+fn answer_without_rules<K: Knowledge>(
+    alloc: Global,
+    knowledge: &K,
+    event: &Event<'_>,
+) -> Result<Bytes, AllocError>
+    ensures { IfOk result (λ text. text ≡ answer event.now (whole_outcome [] (K.known knowledge.now) event.now)) }
+{
+    let none = RuleSet::new(Vec::new(alloc));
+    let outcome = evaluate_whole(alloc, false, &none, event, knowledge)?;
+    let text = answer(alloc, event, &outcome);
+    drop(outcome);
+    text
+}
+
+/// The answer to an event at which all rules are tried, by them and what is known.
+fn answer_with_rules<K: Knowledge>(
+    alloc: Global,
+    program: &Program,
+    asks: bool,
+    knowledge: &K,
+    event: &Event<'_>,
+) -> Result<Bytes, AllocError>
+    requires { asks ≡ ask_others program.now }
+    ensures { IfOk result (λ text. text ≡ answer event.now (whole_outcome program.now (K.known knowledge.now) event.now)) }
+{
+    let own = program.evaluate(alloc, event, knowledge)?;
+    let outcome = with_unread(alloc, asks, program.rules(), event, knowledge, own)?;
+    let said = answer(alloc, event, &outcome);
+    drop(outcome);
+    said
+}
+
 /// The answer to an event by rules and what is known.
 fn answer_by<K: Knowledge>(
     alloc: Global,
@@ -93,11 +128,11 @@ fn answer_by<K: Knowledge>(
     requires { asks ≡ ask_others program.now }
     ensures { IfOk result (λ text. text ≡ answer_by program.now (K.known knowledge.now) event.now) }
 {
-    let own = program.evaluate(alloc, event, knowledge)?;
-    let outcome = with_unread(alloc, asks, program.rules(), event, knowledge, own)?;
-    let said = answer(alloc, event, &outcome);
-    drop(outcome);
-    said
+    if lacks_event(event) {
+        answer_without_rules(alloc, knowledge, event)
+    } else {
+        answer_with_rules(alloc, program, asks, knowledge, event)
+    }
 }
 
 impl<K: Knowledge> Answering for Tables<K> {

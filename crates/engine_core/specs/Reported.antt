@@ -6,6 +6,7 @@ use Rattle.text_bytes.specs.Text.{Text}
 use Rattle.builtin_knowledge.specs.Knowledge.{Known}
 use Rattle.rule_types.specs.Rules.{Rule}
 use Rattle.device_core.specs.Values.{EventValue}
+use Rattle.device_notes.specs.Tried.{tried}
 use Rattle.eval_unread.specs.Unread.{whole_outcome}
 use Rattle.engine_answers.specs.Answers.{answer_lines, sourced_lines}
 use Rattle.engine_courses.specs.WhyLines.{why_lines}
@@ -23,7 +24,7 @@ pub record ReportedValue : Type 0 where
 -- the lines of an answer, with sources or without
 abbrev pub lines_reported : (sources : Bool) → List Rule → Known → EventValue → Text
 lines_reported sources rules known event =
-    if sources then sourced_lines rules known event else answer_lines event (whole_outcome rules known event)
+    if sources then sourced_lines rules known event else answer_lines event (whole_outcome (tried event rules) known event)
 
 -- the answer to an event, by what is known beyond it: its lines, then what the rules that are asked for met, and an empty line;
 -- or all of this as an object of JSON on one line

@@ -4,11 +4,14 @@ ghost use Rattle.std.specs.Prelude.{◌≡◌, ◌++◌, ◌∷◌, [], IfOk, ma
 ghost use Rattle.text_bytes.specs.Names.{newline};
 ghost use Rattle.engine_courses.specs.WhyLines.{why_lines};
 ghost use Rattle.eval_unread.specs.Others.{ask_others};
+ghost use Rattle.eval_unread.specs.Unread.{whole_outcome};
+ghost use Rattle.engine_answers.specs.Answers.{answer_lines};
 ghost use Rattle.engine_json.specs.Answers.{json_answer};
 ghost use Rattle.engine_core.specs.Reported.{lines_reported, reported_by};
 
 use builtin_knowledge::Knowledge;
 use device_core::Event;
+use device_notes::lacks_event;
 use engine_answers::{answer_lines, sourced_lines};
 use engine_courses::push_why_lines;
 use engine_json::json_answer;
@@ -100,6 +103,23 @@ impl<'b, 'a, K: Knowledge + Drop> ReportedTables<'b, 'a, K> {
     }
 }
 
+/// The lines of an answer without sources, by rules that are all tried.
+fn plain_lines<K: Knowledge>(
+    alloc: Global,
+    asks: bool,
+    rules: &RuleSet,
+    knowledge: &K,
+    event: &Event<'_>,
+) -> Result<Vec<u8>, AllocError>
+    requires { asks ≡ ask_others rules.now }
+    ensures { IfOk result (λ lines. lines.items ≡ answer_lines event.now (whole_outcome rules.now (K.known knowledge.now) event.now)) }
+{
+    let outcome = evaluate_whole(alloc, asks, rules, event, knowledge)?;
+    let said = answer_lines(alloc, event, &outcome);
+    drop(outcome);
+    said
+}
+
 /// The lines of an answer, with sources or without.
 fn lines_reported<K: Knowledge>(
     alloc: Global,
@@ -115,10 +135,12 @@ fn lines_reported<K: Knowledge>(
     if sources {
         return sourced_lines(alloc, asks, rules.rules(), event, knowledge);
     }
-    let outcome = evaluate_whole(alloc, asks, rules, event, knowledge)?;
-    let said = answer_lines(alloc, event, &outcome);
-    drop(outcome);
-    said
+    if lacks_event(event) {
+        let none = RuleSet::new(Vec::new(alloc));
+        plain_lines(alloc, false, &none, knowledge, event)
+    } else {
+        plain_lines(alloc, asks, rules, knowledge, event)
+    }
 }
 
 /// The answer to an event as lines, with what is asked for in addition.

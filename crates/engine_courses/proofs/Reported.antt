@@ -7,6 +7,7 @@ use Rattle.text_bytes.specs.Text.{Text}
 use Rattle.builtin_knowledge.specs.Knowledge.{Known}
 use Rattle.rule_types.specs.Rules.{Rule}
 use Rattle.device_core.specs.Values.{EventValue}
+use Rattle.device_notes.specs.Tried.{tried}
 use Rattle.eval_state.specs.Scenes.{start}
 use Rattle.eval_state.specs.declared.scene.Scene.{Scene}
 use Rattle.eval_rules.specs.Jumps.{is_passed}
@@ -64,4 +65,4 @@ pub nothing_reported : (messages : List Message) (rules : List Rule) (known : Kn
 unfolding why_lines
 nothing_reported messages rules known event =
     ap (λ ms. flat_map (λ m. why_line m.file m.line (unread_text m)) ms ++ flat_map rule_lines (reported_for [] rules known event)) (no_messages messages rules)
-    ∙ ap (flat_map rule_lines) (no_rules known no_since None rules (start event))
+    ∙ ap (flat_map rule_lines) (no_rules known no_since None (tried event rules) (start event))

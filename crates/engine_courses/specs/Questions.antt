@@ -5,6 +5,7 @@ use Rattle.text_bytes.specs.Text.{Text}
 use Rattle.builtin_knowledge.specs.Knowledge.{Known}
 use Rattle.rule_types.specs.Rules.{Rule}
 use Rattle.device_core.specs.Values.{EventValue}
+use Rattle.device_notes.specs.Tried.{tried}
 use Rattle.engine_ends.specs.EventLine.{event_line}
 use Rattle.eval_courses.specs.Questions.{questions}
 
@@ -19,4 +20,4 @@ question_lines commands = flat_map question_line commands
 -- the event as in any answer, what rules ask of it, and an empty line
 unfoldable pub question_answer : List Rule → Known → EventValue → Text
 question_answer rules known event =
-    event_line event.action event.device.path ++ question_lines (questions rules known event) ++ newline ∷ []
+    event_line event.action event.device.path ++ question_lines (questions (tried event rules) known event) ++ newline ∷ []

@@ -7,6 +7,7 @@ use Rattle.text_bytes.specs.Text.{Text}
 use Rattle.builtin_knowledge.specs.Knowledge.{Known}
 use Rattle.rule_types.specs.Rules.{Rule}
 use Rattle.device_core.specs.Values.{EventValue}
+use Rattle.device_notes.specs.Tried.{tried}
 use Rattle.eval_state.specs.Scenes.{start}
 use Rattle.eval_state.specs.declared.scene.Scene.{Scene}
 use Rattle.eval_rules.specs.Jumps.{is_passed, sought_after}
@@ -57,9 +58,9 @@ reported_from why known since jumping (r ∷ rs) s =
     reported_if_asked why r (course known since r s)
     ++ reported_from why known (since_after since r (apply known r s).0.finals) (jumping_after (apply known r s).1 r) rs (apply known r s).0
 
--- the rules of an event that are asked for, each with what is reported for it
+-- the rules of an event that are tried and asked for, each with what is reported for it
 abbrev pub reported_for : List Text → List Rule → Known → EventValue → List (Rule × List Text)
-reported_for why rules known event = reported_from why known no_since None rules (start event)
+reported_for why rules known event = reported_from why known no_since None (tried event rules) (start event)
 
 -- the lines on a rule
 abbrev pub rule_lines : Rule × List Text → Text

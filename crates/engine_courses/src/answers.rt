@@ -8,6 +8,7 @@ use crate::reporting::reported_lines;
 use crate::unread::is_unread;
 use builtin_knowledge::Knowledge;
 use device_core::Event;
+use device_notes::tried;
 use file_messages::Message;
 use rule_core::ReadRules;
 use rule_types::Rule;
@@ -52,5 +53,6 @@ pub fn push_why_lines<K: Knowledge>(
         (K.known knowledge.now) event.now) }
 {
     push_unread_lines(alloc, lines, why, rules.messages(), rules.rules().rules())?;
-    lines.extend_from_slice(&reported_lines(alloc, why, rules.rules().rules(), event, knowledge)?)
+    let given = tried(event, rules.rules().rules());
+    lines.extend_from_slice(&reported_lines(alloc, why, given, event, knowledge)?)
 }

@@ -4,6 +4,7 @@ ghost use Rattle.engine_courses.specs.Questions.{question_answer, question_line,
 
 use builtin_knowledge::Knowledge;
 use device_core::Event;
+use device_notes::tried;
 use engine_ends::push_event;
 use eval_courses::questions;
 use rule_types::RuleSet;
@@ -43,7 +44,7 @@ pub fn question_answer<K: Knowledge>(
 ) -> Result<Bytes, AllocError>
     ensures { IfOk result (λ text. text ≡ question_answer rules.now (K.known knowledge.now) event.now) }
 {
-    let asked = questions(alloc, rules.rules(), event, knowledge)?;
+    let asked = questions(alloc, tried(event, rules.rules()), event, knowledge)?;
     let mut lines = Vec::new(alloc);
     push_event(alloc, &mut lines, event.action(), event.device().path())?;
     push_questions(&mut lines, &asked)?;

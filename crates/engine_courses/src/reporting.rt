@@ -1,6 +1,8 @@
 //! All rules over an event, watched.
-ghost use Rattle.std.specs.Prelude.{◌≡◌, IfOk, flat_map, map};
-ghost use Rattle.engine_courses.specs.WhyLines.{reported_for, rule_lines};
+ghost use Rattle.std.specs.Prelude.{◌≡◌, IfOk, None, flat_map, map};
+ghost use Rattle.eval_state.specs.Scenes.{start};
+ghost use Rattle.eval_effects.specs.Since.{no_since};
+ghost use Rattle.engine_courses.specs.WhyLines.{reported_from, rule_lines};
 
 use crate::reporter::Reporter;
 use builtin_knowledge::Knowledge;
@@ -10,7 +12,7 @@ use eval_state::Scene;
 use rule_types::Rule;
 use std::alloc::{AllocError, Global};
 
-/// Evaluates the rules of an event, and returns the lines on those that are asked for.
+/// Evaluates rules at an event, and returns the lines on those that are asked for.
 pub(crate) fn reported_lines<'a, K: Knowledge>(
     alloc: Global,
     why: &[&str],
@@ -18,7 +20,8 @@ pub(crate) fn reported_lines<'a, K: Knowledge>(
     event: &'a Event<'_>,
     knowledge: &K,
 ) -> Result<Vec<u8>, AllocError>
-    ensures { IfOk result (λ lines. lines.items ≡ flat_map rule_lines (reported_for (map (λ t. t.now) why.now) rules.now (K.known knowledge.now) event.now)) }
+    ensures { IfOk result (λ lines. lines.items
+        ≡ flat_map rule_lines (reported_from (map (λ t. t.now) why.now) (K.known knowledge.now) no_since None rules.now (start event.now))) }
 {
     let mut scene = Scene::new(alloc, event)?;
     let mut reporter = Reporter::new(alloc, why);

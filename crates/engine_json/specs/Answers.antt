@@ -7,6 +7,7 @@ use Rattle.text_json.specs.Values.{array_of, object_of, value_line}
 use Rattle.builtin_knowledge.specs.Knowledge.{Known}
 use Rattle.rule_types.specs.Rules.{Rule}
 use Rattle.device_core.specs.Values.{EventValue}
+use Rattle.device_notes.specs.Tried.{tried}
 use Rattle.eval_rules.specs.declared.outcome.Outcome.{Outcome}
 use Rattle.eval_sources.specs.Sources.{source_of}
 use Rattle.eval_sources.specs.Reported.{event_commands, stages}
@@ -33,6 +34,10 @@ sourced_object why rules known event =
     (sourced_runs (event_commands rules known event)) why event (whole_outcome rules known event))
 
 -- the same with sources or without, as a line
-abbrev pub json_answer : Bool → Text → List Rule → Known → EventValue → Text
-json_answer sources why rules known event =
+abbrev pub json_by : Bool → Text → List Rule → Known → EventValue → Text
+json_by sources why rules known event =
     value_line (if sources then sourced_object why rules known event else plain_object why event (whole_outcome rules known event))
+
+-- the answer by the rules that are tried
+abbrev pub json_answer : Bool → Text → List Rule → Known → EventValue → Text
+json_answer sources why rules known event = json_by sources why (tried event rules) known event

@@ -7,7 +7,7 @@ ghost use Rattle.text_json.specs.Values.{array_of, object_of, value_line};
 ghost use Rattle.eval_sources.specs.Sources.{source_in};
 ghost use Rattle.eval_unread.specs.Others.{ask_others};
 ghost use Rattle.eval_unread.specs.Unread.{whole_outcome};
-ghost use Rattle.engine_json.specs.Answers.{answer_members, json_answer, plain_object, sourced_object};
+ghost use Rattle.engine_json.specs.Answers.{answer_members, json_answer, json_by, plain_object, sourced_object};
 ghost use Rattle.engine_json.specs.Members.{item_members, note_values, run_value, sourced, sourced_runs, why_values};
 
 use crate::items::write_items;
@@ -15,6 +15,7 @@ use crate::shape::{AsIs, Shape};
 use crate::values::{write_notes, write_runs, write_sourced_runs, write_why};
 use builtin_knowledge::Knowledge;
 use device_core::Event;
+use device_notes::lacks_event;
 use eval_rules::{Commands, Outcome};
 use eval_sources::{Sourced, SourcedCommand};
 use eval_state::Notes;
@@ -214,6 +215,28 @@ fn plain_answer<K: Knowledge>(
     said
 }
 
+/// The answer to an event at which all rules are tried.
+fn json_by<K: Knowledge>(
+    alloc: Global,
+    sources: bool,
+    asks: bool,
+    why: &[u8],
+    rules: &RuleSet,
+    event: &Event<'_>,
+    knowledge: &K,
+) -> Result<Bytes, AllocError>
+    requires { asks ≡ ask_others rules.now }
+    ensures { IfOk result (λ text. text ≡ json_by sources why.now rules.now (K.known knowledge.now) event.now) }
+{
+    if sources {
+        let text = sourced_answer(alloc, asks, why, rules.rules(), event, knowledge)?;
+        Ok(Bytes::new(text))
+    } else {
+        let text = plain_answer(alloc, asks, why, rules, event, knowledge)?;
+        Ok(Bytes::new(text))
+    }
+}
+
 /// The answer to an event by the rules as they are read, as an object of JSON on one line. Its members are `event`, `path`,
 /// `name`, `owner`, `group`, `mode`, `priority`, `watch`, `persist`, `labels`, `links`, `tags`, `env`, `attr`, `sysctl`,
 /// `run`, `notes` and `why`, in this order; up to `persist` only those that were assigned, and the others always. `why` are
@@ -232,11 +255,10 @@ pub fn json_answer<K: Knowledge>(
     requires { asks ≡ ask_others rules.now }
     ensures { IfOk result (λ text. text ≡ json_answer sources why.now rules.now (K.known knowledge.now) event.now) }
 {
-    if sources {
-        let text = sourced_answer(alloc, asks, why, rules.rules(), event, knowledge)?;
-        Ok(Bytes::new(text))
+    if lacks_event(event) {
+        let none = RuleSet::new(Vec::new(alloc));
+        json_by(alloc, sources, false, why, &none, event, knowledge)
     } else {
-        let text = plain_answer(alloc, asks, why, rules, event, knowledge)?;
-        Ok(Bytes::new(text))
+        json_by(alloc, sources, asks, why, rules, event, knowledge)
     }
 }

@@ -9,6 +9,7 @@ use Rattle.rule_types.specs.declared.part.Act.{Act}
 use Rattle.rule_types.specs.declared.part.PlainMatch.{PlainMatch}
 use Rattle.rule_types.specs.declared.part.UpMatch.{UpMatch}
 use Rattle.device_core.specs.Values.{EventValue}
+use Rattle.device_notes.specs.Tried.{lacks_event}
 use Rattle.eval_state.specs.Scenes.{start}
 use Rattle.eval_state.specs.declared.scene.Scene.{Scene}
 use Rattle.eval_state.specs.declared.state.State.{State}
@@ -89,13 +90,25 @@ module _ (why : List Text) (known : Known) where
           ∙ sym (append_assoc (reported_if_asked why q (course known since q s)) (reported_from why known later next before t) (told (since_through known later next before t) (jumping_over known next before t) r (run known sought before t)))
 
 -- what is told of the last of some rules
-pub last_of_rules : (why : List Text) (before : List Rule) (r : Rule) (known : Known) (event : EventValue)
+pub last_of_rules : (why : List Text) (before : List Rule) (r : Rule) (known : Known) (event : EventValue) → lacks_event event ≡ false
     → reported_for why (before ++ r ∷ []) known event
     ≡ reported_for why before known event
     ++ reported_if_asked why r
     (cond (is_passed (sought_by (jumping_over known None before (start event))) r) (passed_texts (jumping_over known None before (start event)))
     (course known (since_through known no_since None before (start event)) r (run_all known before (start event))))
-last_of_rules why before r known event = last_told why known no_since None before r (start event)
+last_of_rules why before r known event has =
+    let last : List (Rule × List Text) =
+    reported_if_asked why r
+    (cond (is_passed (sought_by (jumping_over known None before (start event))) r) (passed_texts (jumping_over known None before (start event)))
+    (course known (since_through known no_since None before (start event)) r (run_all known before (start event)))) in
+    ap (λ (lacks : Bool). reported_from why known no_since None (cond lacks [] (before ++ r ∷ [])) (start event)) has
+    ∙ last_told why known no_since None before r (start event)
+    ∙ sym (ap (λ (lacks : Bool). reported_from why known no_since None (cond lacks [] before) (start event) ++ last) has)
+
+-- at a device without an event nothing is told
+pub none_told : (why : List Text) (rules : List Rule) (known : Known) (event : EventValue) → lacks_event event ≡ true → reported_for why rules known event ≡ []
+unfolding reported_from
+none_told why rules known event lacks = ap (λ (none : Bool). reported_from why known no_since None (cond none [] rules) (start event)) lacks
 
 -- ---- one course
 

@@ -6,6 +6,7 @@ ghost use Rattle.text_bytes.specs.Text.{Text};
 ghost use Rattle.builtin_knowledge.specs.Knowledge.{Known};
 ghost use Rattle.rule_types.specs.Rules.{Rule};
 ghost use Rattle.device_core.specs.Values.{EventValue};
+ghost use Rattle.device_notes.specs.Tried.{lacks_event};
 ghost use Rattle.eval_rules.specs.Jumps.{is_passed, run_all};
 ghost use Rattle.eval_state.specs.Scenes.{start};
 ghost use Rattle.eval_state.specs.declared.scene.Scene.{Scene};
@@ -17,13 +18,16 @@ ghost use Rattle.engine_courses.specs.WhyLines.{passed_texts, reported_for, repo
 ghost use Rattle.engine_laws.specs.Told.{jumping_over, lines_reached, since_through};
 
 /// What is told of a rule after others is its course over the scene that these leave, or which jump passes over it; and the
-/// rules are told in their order.
+/// rules are told in their order. At a device without an event no rule is tried, and none is told.
 pub fn each_rule_is_told_over_the_scene_that_those_before_it_leave()
-    ensures { (why : List Text) (before : List Rule) (r : Rule) (known : Known) (event : EventValue) → reported_for why (before ++ r ∷ []) known event
+    ensures tried { (why : List Text) (before : List Rule) (r : Rule) (known : Known) (event : EventValue) → lacks_event event ≡ false
+        → reported_for why (before ++ r ∷ []) known event
         ≡ reported_for why before known event
         ++ reported_if_asked why r
         (if is_passed (sought_by (jumping_over known None before (start event))) r then passed_texts (jumping_over known None before (start event))
         else course known (since_through known no_since None before (start event)) r (run_all known before (start event))) }
+    ensures none { (why : List Text) (rules : List Rule) (known : Known) (event : EventValue) → lacks_event event ≡ true
+        → reported_for why rules known event ≡ [] }
 {}
 
 /// A course has a line for each key that the rule reaches, one for the outcome of a search, and one for its end.

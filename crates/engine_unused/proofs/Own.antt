@@ -4,6 +4,7 @@ use Rattle.std.proofs.lemmas.List.{get_or-map, length-map}
 use Rattle.builtin_knowledge.specs.Knowledge.{Known}
 use Rattle.rule_types.specs.Rules.{Rule}
 use Rattle.device_core.specs.Values.{EventValue}
+use Rattle.device_notes.specs.Tried.{tried}
 use Rattle.eval_courses.specs.Fates.{fates}
 use Rattle.eval_courses.specs.declared.fate.Fate.{Fate}
 use Rattle.eval_courses.specs.declared.fate.Fate.TheVariants.{Passed}
@@ -31,8 +32,8 @@ own_all : (read : List Rule) (known : Known) (rows : List Row) (events : List Ev
 unfolding counted
 own_all read known rows [] place d h = refl
 own_all read known rows (event ∷ events) place d h =
-    own_all read known (with_fates rows (fates read known event)) events place d (subst (λ n. place < n) (sym (sizes rows (fates read known event))) h)
-    ∙ ap (λ row. fold with_fate row (fates_of read known place events)) (own rows (fates read known event) place d h)
+    own_all read known (with_fates rows (fates (tried event read) known event)) events place d (subst (λ n. place < n) (sym (sizes rows (fates (tried event read) known event))) h)
+    ∙ ap (λ row. fold with_fate row (fates_of read known place events)) (own rows (fates (tried event read) known event) place d h)
 
 pub own_fates : (read : List Rule) (known : Known) (events : List EventValue) (place : ℕ) (r : Rule) → place < length read
     → get_or (counted read known (map unreached read) events) place (unreached r) ≡ after (get_or read place r) (fates_of read known place events)
@@ -41,7 +42,7 @@ own_fates read known events place r h =
     ∙ ap (λ row. fold with_fate row (fates_of read known place events)) (get_or-map unreached read place r (unreached r) h)
 
 -- one event more
-pub counted_more : (names : List Text) (read : List Rule) (known : Known) (rows now : List Row) (event : EventValue) (later : List EventValue) → now ≡ with_fates rows (fates read known event)
+pub counted_more : (names : List Text) (read : List Rule) (known : Known) (rows now : List Row) (event : EventValue) (later : List EventValue) → now ≡ with_fates rows (fates (tried event read) known event)
     → lines_by names read (counted read known now later) ≡ lines_by names read (counted read known rows (event ∷ later))
 unfolding counted
-counted_more names read known rows now event later e = ap (λ all. lines_by names read (fold (λ each event. with_fates each (fates read known event)) all later)) e
+counted_more names read known rows now event later e = ap (λ all. lines_by names read (fold (λ each event. with_fates each (fates (tried event read) known event)) all later)) e

@@ -3,6 +3,7 @@ use Rattle.std.specs.Prelude.{ℕ, ◌==◌, Bool, true, false, List, map, fold,
 use Rattle.builtin_knowledge.specs.Knowledge.{Known}
 use Rattle.rule_types.specs.Rules.{Rule}
 use Rattle.device_core.specs.Values.{EventValue}
+use Rattle.device_notes.specs.Tried.{tried}
 use Rattle.eval_courses.specs.Fates.{fates}
 use Rattle.eval_courses.specs.declared.fate.Fate.{Fate}
 use Rattle.eval_courses.specs.declared.fate.Fate.TheVariants.{Passed, Stopped, Met}
@@ -26,4 +27,4 @@ after r fs = fold with_fate (unreached r) fs
 
 -- the fates at some events of the rule at a place among all
 abbrev pub fates_of : List Rule → Known → ℕ → List EventValue → List Fate
-fates_of rules known place events = map (λ event. slice_index_or (fates rules known event) place Passed) events
+fates_of rules known place events = map (λ event. slice_index_or (fates (tried event rules) known event) place Passed) events

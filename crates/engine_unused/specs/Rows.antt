@@ -4,6 +4,7 @@ use Rattle.text_bytes.specs.Text.{Text}
 use Rattle.builtin_knowledge.specs.Knowledge.{Known}
 use Rattle.rule_types.specs.Rules.{Rule}
 use Rattle.device_core.specs.Values.{EventValue}
+use Rattle.device_notes.specs.Tried.{tried}
 use Rattle.eval_courses.specs.Fates.{fates, keys_of}
 use Rattle.eval_courses.specs.declared.fate.Fate.{Fate}
 use Rattle.eval_courses.specs.declared.fate.Fate.TheVariants.{Passed, Stopped, Met}
@@ -40,7 +41,7 @@ unreached r = record { reached = 0; ends = 0 ∷ map (λ key. 0) (keys_of r) }
 
 -- the counts of rules after more events
 unfoldable pub counted : List Rule → Known → List Row → List EventValue → List Row
-counted rules known rows events = fold (λ all event. with_fates all (fates rules known event)) rows events
+counted rules known rows events = fold (λ all event. with_fates all (fates (tried event rules) known event)) rows events
 
 -- the names of the files that are reported on, the rules, what is known beyond an event, and the counts of the rules
 pub record TallyValue (K : Type 0) : Type 0 where

@@ -7,6 +7,7 @@ use crate::lines::{lines_by, rules_named};
 use crate::rows::{Row, note_all, rows_of};
 use builtin_knowledge::Knowledge;
 use device_core::Event;
+use device_notes::tried;
 use engine_sessions::Tally;
 use eval_courses::fates;
 use rule_types::Rule;
@@ -73,7 +74,7 @@ impl<'b, K: Knowledge> Tally for UnusedTally<'b, K> {
 
     #[tactic(auto, using(crate::proofs::Own::counted_more))]
     fn count(&mut self, alloc: Global, event: &Event<'_>) -> Result<(), AllocError> {
-        let found = fates(alloc, self.rules, event, self.knowledge)?;
+        let found = fates(alloc, tried(event, self.rules), event, self.knowledge)?;
         note_all(&mut self.rows, &found)
     }
 

@@ -40,6 +40,7 @@ use Rattle.device_core.specs.Parts.{pair_of, number_below, answer_of, is_device_
 use Rattle.device_core.specs.Parts as device_core_parts
 use Rattle.device_core.specs.RunBlocks.{line_of_excess}
 use Rattle.device_notes.specs.Notes.{block_notes}
+use Rattle.device_notes.specs.Tried.{lacks_event}
 use Rattle.hwdb_core.specs.Sources.{are_few}
 use Rattle.hwdb_lints.specs.Lints.{database_lints}
 use Rattle.link_files.specs.Booleans.{is_no, is_yes}
@@ -216,7 +217,7 @@ reporting = tt
 unfoldable writing : ⊤
 unfolding escape_byte print_from told_text value_line answer_members engine_json_members.sourced engine_json_members.node_members
     engine_json_members.label_value engine_json_members.item_members engine_json_members.run_value
-    engine_json_members.note_value engine_json_members.block_note_value lines_with node_lines item_lines text_line pair_line run_line block_notes block_note_line note_line event_line block_line block_said
+    engine_json_members.note_value engine_json_members.block_note_value lines_with node_lines item_lines text_line pair_line run_line lacks_event block_notes block_note_line note_line event_line block_line block_said
 writing = tt
 
 -- those by which files are checked

@@ -39,9 +39,9 @@ pub fn each_line_comes_from_the_rule_that_last_changed_it()
         ∷ codes "r.rules:2: run program b" ∷ codes "r.rules:2: run builtin kmod c" ∷ codes "" ∷ []) }
     ensures made { sourced_as_udev
         (text (codes "RUN+=\"a\"" ∷ codes "RUN+=\"b\", RUN{builtin}+=\"kmod c\"" ∷ codes "RUN+=\"a\"" ∷ []))
-        (codes "C: add\nP: /d")
+        (codes "C: add\nP: /d\nU: m")
         ≡ text (
-        codes "event add /d" ∷ codes "-: env ACTION=add" ∷ codes "-: env DEVPATH=/d" ∷ codes "r.rules:1: run program a"
+        codes "event add /d" ∷ codes "-: env ACTION=add" ∷ codes "-: env DEVPATH=/d" ∷ codes "-: env SUBSYSTEM=m" ∷ codes "r.rules:1: run program a"
         ∷ codes "r.rules:2: run builtin kmod c" ∷ codes "r.rules:2: run program b" ∷ codes "r.rules:3: run program a" ∷ codes "" ∷ []) }
 {}
 
@@ -141,10 +141,10 @@ pub fn each_assignment_says_what_became_of_its_own_items()
         (text (
         codes "SYMLINK+=\"a b\", TAG+=\"t\"" ∷ codes "SYMLINK+=\"b c\", TAG+=\"u\", TAG+=\"t\"" ∷ codes "SYMLINK-=\"a\", TAG-=\"t\""
         ∷ codes "TAG+=\"t\", SYMLINK=\"a\"" ∷ codes "SYSCTL{a.b}=\"4\"" ∷ []))
-        (codes "C: add\nP: /d\nD: 8:0\nG: k\nA: x=y\nS: i")
+        (codes "C: add\nP: /d\nU: m\nD: 8:0\nG: k\nA: x=y\nS: i")
         ≡ text (
         codes "event add /d" ∷ codes "link a" ∷ codes "tag k" ∷ codes "tag t" ∷ codes "tag u" ∷ codes "env ACTION=add" ∷ codes "env DEVPATH=/d"
-        ∷ codes "env MAJOR=8" ∷ codes "env MINOR=0" ∷ codes "sysctl a/b=4"
+        ∷ codes "env MAJOR=8" ∷ codes "env MINOR=0" ∷ codes "env SUBSYSTEM=m" ∷ codes "sysctl a/b=4"
         ∷ codes "why r.rules:1: reached its end: tag t added, link a added, link b added"
         ∷ codes "why r.rules:2: reached its end: tag u added, TAG changes nothing, link c added"
         ∷ codes "why r.rules:3: reached its end: tag t removed, link a removed"
@@ -175,11 +175,11 @@ pub fn each_assignment_says_what_became_of_its_own_items()
         ∷ codes "OPTIONS=\"nowatch\", OPTIONS=\"db_persist\", SECLABEL{m}=\"l\", ATTR{a}=\"b\"" ∷ codes "SYSCTL{c}=\"d\", ENV{E}=\"f\", RUN+=\"r\""
         ∷ codes "SECLABEL{k}+=\"n\", ATTR{a}=\"b\", ATTR{x}=\"y\", SYSCTL{c}=\"e\"" ∷ codes "ENV{E}=\"\", ENV{F}=\"g\", RUN+=\"r\", RUN+=\"s\""
         ∷ codes "SECLABEL{k}=\"n\", ENV{E}=\"h\"" ∷ codes "RUN=\"s\"" ∷ []))
-        (codes "C: add\nP: /d\nD: 8:0\nG: k\nA: x=y\nS: i")
+        (codes "C: add\nP: /d\nU: m\nD: 8:0\nG: k\nA: x=y\nS: i")
         ≡ text (
         codes "event add /d" ∷ codes "owner o" ∷ codes "group g" ∷ codes "mode 0660" ∷ codes "priority 5" ∷ codes "nowatch" ∷ codes "persist"
         ∷ codes "label k=n" ∷ codes "link i" ∷ codes "tag k" ∷ codes "env ACTION=add" ∷ codes "env DEVPATH=/d" ∷ codes "env E=h" ∷ codes "env F=g"
-        ∷ codes "env MAJOR=8" ∷ codes "env MINOR=0" ∷ codes "attr a=b" ∷ codes "attr x=y" ∷ codes "sysctl c=e" ∷ codes "run program s"
+        ∷ codes "env MAJOR=8" ∷ codes "env MINOR=0" ∷ codes "env SUBSYSTEM=m" ∷ codes "attr a=b" ∷ codes "attr x=y" ∷ codes "sysctl c=e" ∷ codes "run program s"
         ∷ codes "note r.rules:1: name ignored: n" ∷ codes "note r.rules:2: no value: OWNER" ∷ codes "note r.rules:2: name ignored: m"
         ∷ codes "why r.rules:1: reached its end: owner=o set, group=g set, mode=0660 set, NAME ignored, no network device"
         ∷ codes "why r.rules:2: reached its end: watch added, priority=5 set, OWNER ignored, no value, NAME ignored, no network device"
@@ -198,9 +198,9 @@ pub fn what_udev_leaves_out_says_why()
         (text (
         codes "SUBSYSTEMS==\"u\", SYMLINK+=\"l\", OWNER=\"o\"" ∷ codes "NAME=\"n\"" ∷ codes "OPTIONS=\"static_node=x\"" ∷ codes "LABEL=\"x\""
         ∷ codes "KERNEL==\"d\", LABEL=\"y\"" ∷ []))
-        (codes "C: add\nP: /h/d\nP: /h\nU: u")
+        (codes "C: add\nP: /h/d\nU: m\nP: /h\nU: u")
         ≡ text (
-        codes "event add /h/d" ∷ codes "env ACTION=add" ∷ codes "env DEVPATH=/h/d" ∷ codes "note r.rules:1: no device number: OWNER"
+        codes "event add /h/d" ∷ codes "env ACTION=add" ∷ codes "env DEVPATH=/h/d" ∷ codes "env SUBSYSTEM=m" ∷ codes "note r.rules:1: no device number: OWNER"
         ∷ codes "note r.rules:1: no device number: SYMLINK" ∷ codes "note r.rules:2: name ignored: n"
         ∷ codes "why r.rules:1: SUBSYSTEMS==\"u\": d fails, \"\", h holds" ∷ codes "why r.rules:1: h would meet all"
         ∷ codes "why r.rules:1: skipped: OWNER does nothing without a device number, SYMLINK does nothing without a device number"
@@ -219,9 +219,9 @@ pub fn what_udev_leaves_out_says_why()
         ∷ codes "why r.rules:1: reached its end: env A=1 set, NAME ignored, no interface (IFINDEX)" ∷ codes "" ∷ []) }
     ensures imported { explained_as_udev
         (text (codes "IMPORT{program}=\"/p\", ENV{C}=\"1\"" ∷ codes "IMPORT{program}=\"/q\", ENV{C}=\"2\"" ∷ []))
-        (codes "C: add\nP: /d\nE: A=1\nQ: /p\nR: 0 A=\"\"\rB=2\nQ: /q\nR: 0 B=\"\"")
+        (codes "C: add\nP: /d\nU: m\nE: A=1\nQ: /p\nR: 0 A=\"\"\rB=2\nQ: /q\nR: 0 B=\"\"")
         ≡ text (
-        codes "event add /d" ∷ codes "env ACTION=add" ∷ codes "env C=2" ∷ codes "env DEVPATH=/d"
+        codes "event add /d" ∷ codes "env ACTION=add" ∷ codes "env C=2" ∷ codes "env DEVPATH=/d" ∷ codes "env SUBSYSTEM=m"
         ∷ codes "why r.rules:1: IMPORT{program}==\"/p\": holds, /p answers 0 A=\"\"\\x0DB=2, removes A, sets B=2"
         ∷ codes "why r.rules:1: reached its end: env C=1 set"
         ∷ codes "why r.rules:2: IMPORT{program}==\"/q\": holds, /q answers 0 B=\"\", removes B"

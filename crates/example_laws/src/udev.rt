@@ -14,10 +14,10 @@ pub fn udev_takes_texts_otherwise()
         ∷ codes "env MAJOR=8" ∷ codes "env MINOR=1" ∷ codes "env X=1" ∷ codes "run program r1" ∷ codes "" ∷ []) }
     ensures udev { answered_as_udev
         (text (codes "SYMLINK+=\"/dev/a//b/\", MODE=\"660\", OWNER=\"\", RUN+=\"r$env{X}\"" ∷ codes "ENV{X}=\"1\"" ∷ []))
-        (codes "C: add\nP: /d\nD: 8:1")
+        (codes "C: add\nP: /d\nU: m\nD: 8:1")
         ≡ text (
         codes "event add /d" ∷ codes "mode 0660" ∷ codes "link a/b" ∷ codes "env ACTION=add" ∷ codes "env DEVPATH=/d"
-        ∷ codes "env MAJOR=8" ∷ codes "env MINOR=1" ∷ codes "env X=1" ∷ codes "run program r"
+        ∷ codes "env MAJOR=8" ∷ codes "env MINOR=1" ∷ codes "env SUBSYSTEM=m" ∷ codes "env X=1" ∷ codes "run program r"
         ∷ codes "note r.rules:1: no value: OWNER" ∷ codes "" ∷ []) }
 {}
 
@@ -26,17 +26,17 @@ pub fn an_attribute_that_is_absent_fails_both_for_udev()
     ensures { answered_as_udev
         (text (
         codes "ATTR{a}==\"*\", ENV{A}=\"1\"" ∷ codes "ATTR{a}!=\"1\", ENV{B}=\"1\"" ∷ codes "ATTRS{a}!=\"1\", ENV{C}=\"1\"" ∷ []))
-        (codes "C: add\nP: /d")
-        ≡ codes "event add /d\nenv ACTION=add\nenv DEVPATH=/d\n\n" }
+        (codes "C: add\nP: /d\nU: m")
+        ≡ codes "event add /d\nenv ACTION=add\nenv DEVPATH=/d\nenv SUBSYSTEM=m\n\n" }
 {}
 
 /// For udev SYMLINK, OWNER, GROUP, MODE and SECLABEL of a device without a number change nothing, with notes.
 pub fn a_device_without_a_number_has_no_node_for_udev()
     ensures { answered_as_udev
         (codes "SYMLINK+=\"a\", OWNER=\"o\", GROUP=\"g\", MODE=\"1\", SECLABEL{s}=\"l\", ENV{X}=\"1\"")
-        (codes "C: add\nP: /d")
+        (codes "C: add\nP: /d\nU: m")
         ≡ text (
-        codes "event add /d" ∷ codes "env ACTION=add" ∷ codes "env DEVPATH=/d" ∷ codes "env X=1"
+        codes "event add /d" ∷ codes "env ACTION=add" ∷ codes "env DEVPATH=/d" ∷ codes "env SUBSYSTEM=m" ∷ codes "env X=1"
         ∷ codes "note r.rules:1: no device number: OWNER" ∷ codes "note r.rules:1: no device number: GROUP"
         ∷ codes "note r.rules:1: no device number: MODE" ∷ codes "note r.rules:1: no device number: SECLABEL{s}"
         ∷ codes "note r.rules:1: no device number: SYMLINK" ∷ codes "" ∷ []) }
@@ -49,9 +49,9 @@ pub fn an_attribute_may_name_its_device_for_udev()
         (text (
         codes "ATTR{[u/h]a}==\"1\", ENV{A}=\"$attr{[u/h]a}\"" ∷ codes "ATTR{[u/g]a}==\"1\", ENV{B}=\"1\""
         ∷ codes "ATTR{[t/h]a}!=\"1\", ENV{C}=\"1\"" ∷ codes "TEST==\"[u/h]a\", ENV{D}=\"1\"" ∷ []))
-        (codes "C: add\nP: /h/d\nP: /h\nU: u\nA: a=1")
+        (codes "C: add\nP: /h/d\nU: m\nP: /h\nU: u\nA: a=1")
         ≡ text (
-        codes "event add /h/d" ∷ codes "env A=1" ∷ codes "env ACTION=add" ∷ codes "env D=1" ∷ codes "env DEVPATH=/h/d"
+        codes "event add /h/d" ∷ codes "env A=1" ∷ codes "env ACTION=add" ∷ codes "env D=1" ∷ codes "env DEVPATH=/h/d" ∷ codes "env SUBSYSTEM=m"
         ∷ codes "note r.rules:2: attribute not read: [u/g]a" ∷ codes "note r.rules:3: attribute not read: [t/h]a" ∷ codes "" ∷ []) }
 {}
 
@@ -61,9 +61,9 @@ pub fn an_attribute_of_a_device_elsewhere_may_be_given_for_udev()
         (text (
         codes "ATTR{[u/g]a}==\"1\", ENV{A}=\"$attr{[u/g]a}\"" ∷ codes "ATTR{[u/g]a}!=\"1\", ENV{B}=\"1\""
         ∷ codes "ATTRS{[u/g]a}==\"1\", ENV{C}=\"1\"" ∷ codes "TEST==\"[u/g]a\", TEST!=\"[u/g]b\", ENV{D}=\"1\"" ∷ []))
-        (codes "C: add\nP: /d\nA: [u/g]a=1")
+        (codes "C: add\nP: /d\nU: m\nA: [u/g]a=1")
         ≡ text (
-        codes "event add /d" ∷ codes "env A=1" ∷ codes "env ACTION=add" ∷ codes "env C=1" ∷ codes "env D=1" ∷ codes "env DEVPATH=/d"
+        codes "event add /d" ∷ codes "env A=1" ∷ codes "env ACTION=add" ∷ codes "env C=1" ∷ codes "env D=1" ∷ codes "env DEVPATH=/d" ∷ codes "env SUBSYSTEM=m"
         ∷ codes "note r.rules:4: test not made: [u/g]b" ∷ codes "" ∷ []) }
 {}
 
@@ -73,12 +73,13 @@ pub fn a_block_gives_what_udev_knows_of_the_machine()
         (text (
         codes "CONST{arch}==\"x\", ENV{A}=\"1\"" ∷ codes "CONST{virt}!=\"k\", ENV{B}=\"1\""
         ∷ codes "IMPORT{cmdline}=\"n_o\", ENV{C}=\"1\"" ∷ codes "IMPORT{cmdline}=\"m\"" ∷ codes "IMPORT{cmdline}!=\"n\", ENV{D}=\"1\"" ∷ []))
-        (codes "C: add\nP: /d\nK: arch=x\nK: cmdline=q n-o m=1 m=\"a b\" m")
+        (codes "C: add\nP: /d\nU: m\nK: arch=x\nK: cmdline=q n-o m=1 m=\"a b\" m")
         ≡ text (
         codes "event add /d" ∷ codes "env A=1" ∷ codes "env ACTION=add" ∷ codes "env B=1" ∷ codes "env C=1" ∷ codes "env D=1"
-        ∷ codes "env DEVPATH=/d" ∷ codes "env m=a b" ∷ codes "env n_o=1" ∷ codes "note r.rules:2: constant not given: virt" ∷ codes "" ∷ []) }
-    ensures missing { answered_as_udev (codes "IMPORT{cmdline}!=\"n\", ENV{A}=\"1\"") (codes "C: add\nP: /d")
-        ≡ codes "event add /d\nenv A=1\nenv ACTION=add\nenv DEVPATH=/d\nnote r.rules:1: import not run: cmdline\n\n" }
+        ∷ codes "env DEVPATH=/d"
+        ∷ codes "env SUBSYSTEM=m" ∷ codes "env m=a b" ∷ codes "env n_o=1" ∷ codes "note r.rules:2: constant not given: virt" ∷ codes "" ∷ []) }
+    ensures missing { answered_as_udev (codes "IMPORT{cmdline}!=\"n\", ENV{A}=\"1\"") (codes "C: add\nP: /d\nU: m")
+        ≡ codes "event add /d\nenv A=1\nenv ACTION=add\nenv DEVPATH=/d\nenv SUBSYSTEM=m\nnote r.rules:1: import not run: cmdline\n\n" }
     ensures manual { answered (codes "CONST{virt}!=\"k\", IMPORT{cmdline}!=\"n\", ENV{A}=\"1\"") (codes "C: add\nP: /d\nK: cmdline=n")
         ≡ codes "event add /d\nenv A=1\nenv ACTION=add\nenv DEVPATH=/d\nnote r.rules:1: import not run: cmdline\n\n" }
 {}
@@ -89,9 +90,9 @@ pub fn a_block_answers_builtins_for_udev()
         (text (
         codes "IMPORT{builtin}=\"blkid -o\", ENV{X}=\"1\"" ∷ codes "IMPORT{program}=\"net_driver\", ENV{Y}=\"1\""
         ∷ codes "IMPORT{builtin}=\"kmod load m\", ENV{Z}=\"1\"" ∷ []))
-        (codes "C: add\nP: /d\nQ: builtin blkid -o\nR: 0 A=1\rB=2")
+        (codes "C: add\nP: /d\nU: m\nQ: builtin blkid -o\nR: 0 A=1\rB=2")
         ≡ text (
-        codes "event add /d" ∷ codes "env A=1" ∷ codes "env ACTION=add" ∷ codes "env B=2" ∷ codes "env DEVPATH=/d" ∷ codes "env X=1"
+        codes "event add /d" ∷ codes "env A=1" ∷ codes "env ACTION=add" ∷ codes "env B=2" ∷ codes "env DEVPATH=/d" ∷ codes "env SUBSYSTEM=m" ∷ codes "env X=1"
         ∷ codes "env Z=1" ∷ codes "note r.rules:2: builtin not run: net_driver" ∷ codes "" ∷ []) }
 {}
 
@@ -103,8 +104,8 @@ pub fn a_rule_in_which_nothing_counts_is_skipped_by_udev()
         ≡ codes "event add /h/d\nlink l\nenv ACTION=add\nenv DEVPATH=/h/d\nenv X=[h]\n\n" }
     ensures udev { answered_as_udev
         (text (codes "SUBSYSTEMS==\"u\", SYMLINK+=\"l\"" ∷ codes "ENV{X}=\"[$id]\"" ∷ []))
-        (codes "C: add\nP: /h/d\nP: /h\nU: u")
-        ≡ codes "event add /h/d\nenv ACTION=add\nenv DEVPATH=/h/d\nenv X=[]\nnote r.rules:1: no device number: SYMLINK\n\n" }
+        (codes "C: add\nP: /h/d\nU: m\nP: /h\nU: u")
+        ≡ codes "event add /h/d\nenv ACTION=add\nenv DEVPATH=/h/d\nenv SUBSYSTEM=m\nenv X=[]\nnote r.rules:1: no device number: SYMLINK\n\n" }
 {}
 
 /// For udev `subsystem`, `bus` and `class` fit each other, `?*` always holds for tags and reverses a TEST, and a tag that was removed is
@@ -128,24 +129,24 @@ pub fn udev_compares_some_values_otherwise()
 pub fn udev_runs_builtins_before_programs()
     ensures manual { answered (codes "RUN+=\"a\", RUN{builtin}+=\"kmod b\", RUN+=\"a\"") (codes "C: add\nP: /d")
         ≡ codes "event add /d\nenv ACTION=add\nenv DEVPATH=/d\nrun program a\nrun builtin kmod b\n\n" }
-    ensures udev { answered_as_udev (codes "RUN+=\"a\", RUN{builtin}+=\"kmod b\", RUN+=\"a\"") (codes "C: add\nP: /d")
-        ≡ codes "event add /d\nenv ACTION=add\nenv DEVPATH=/d\nrun builtin kmod b\nrun program a\nrun program a\n\n" }
+    ensures udev { answered_as_udev (codes "RUN+=\"a\", RUN{builtin}+=\"kmod b\", RUN+=\"a\"") (codes "C: add\nP: /d\nU: m")
+        ≡ codes "event add /d\nenv ACTION=add\nenv DEVPATH=/d\nenv SUBSYSTEM=m\nrun builtin kmod b\nrun program a\nrun program a\n\n" }
 {}
 
 /// For udev the block answers IMPORT{program} as it answers a PROGRAM: each line that sets a property is taken.
 pub fn udev_imports_what_a_program_prints()
     ensures { answered_as_udev
         (codes "IMPORT{program}=\"/p\", ENV{X}=\"1\"")
-        (codes "C: add\nP: /d\nQ: /p\nR: 0 A=1\r# c\rB = \"2 \"\rC")
-        ≡ codes "event add /d\nenv A=1\nenv ACTION=add\nenv B=2 \nenv DEVPATH=/d\nenv X=1\n\n" }
+        (codes "C: add\nP: /d\nU: m\nQ: /p\nR: 0 A=1\r# c\rB = \"2 \"\rC")
+        ≡ codes "event add /d\nenv A=1\nenv ACTION=add\nenv B=2 \nenv DEVPATH=/d\nenv SUBSYSTEM=m\nenv X=1\n\n" }
 {}
 
 /// For udev `+=` adds a blank even to nothing, and a label even if it is there.
 pub fn udev_adds_to_properties_and_labels_otherwise()
     ensures { answered_as_udev
         (text (codes "ENV{A}+=\"$env{N}\", SECLABEL{m}+=\"l\"" ∷ codes "SECLABEL{m}+=\"l\"" ∷ []))
-        (codes "C: add\nP: /d\nD: 8:1\nE: A=1")
-        ≡ codes "event add /d\nlabel m=l\nlabel m=l\nenv A=1 \nenv ACTION=add\nenv DEVPATH=/d\nenv MAJOR=8\nenv MINOR=1\n\n" }
+        (codes "C: add\nP: /d\nU: m\nD: 8:1\nE: A=1")
+        ≡ codes "event add /d\nlabel m=l\nlabel m=l\nenv A=1 \nenv ACTION=add\nenv DEVPATH=/d\nenv MAJOR=8\nenv MINOR=1\nenv SUBSYSTEM=m\n\n" }
 {}
 
 /// For udev `hwdb` that finds nothing tells which of the devices that it looked at lack a modalias; what it looks at ends with the first
@@ -167,20 +168,24 @@ pub fn a_look_up_that_finds_nothing_tells_what_it_needs()
 {}
 
 /// For udev an answer has notes about the block itself, before those of rules: of an action that udev does not have, of a path with
-/// `/sys` at its start, and under `add` of a property that udev stores later.
+/// `/sys` at its start, under `add` of a property that udev stores later, and of a device without a subsystem, at which no rule is
+/// tried.
 pub fn udev_notes_what_is_odd_about_a_block()
-    ensures two { answered_as_udev (codes "IMPORT{db}=\"A\"") (codes "C: plug\nP: /sys/d")
+    ensures two { answered_as_udev (codes "IMPORT{db}=\"A\"") (codes "C: plug\nP: /sys/d\nU: m")
         ≡ text (
-        codes "event plug /sys/d" ∷ codes "env ACTION=plug" ∷ codes "env DEVPATH=/sys/d" ∷ codes "note -: unknown action: plug"
+        codes "event plug /sys/d" ∷ codes "env ACTION=plug" ∷ codes "env DEVPATH=/sys/d" ∷ codes "env SUBSYSTEM=m" ∷ codes "note -: unknown action: plug"
         ∷ codes "note -: path begins with /sys: /sys/d" ∷ codes "note r.rules:1: import not run: db" ∷ codes "" ∷ []) }
-    ensures stored { answered_as_udev (codes "RUN+=\"r\"") (codes "C: add\nP: /d\nE: USEC_INITIALIZED=7")
+    ensures stored { answered_as_udev (codes "RUN+=\"r\"") (codes "C: add\nP: /d\nU: m\nE: USEC_INITIALIZED=7")
         ≡ text (
-        codes "event add /d" ∷ codes "env ACTION=add" ∷ codes "env DEVPATH=/d" ∷ codes "env USEC_INITIALIZED=7" ∷ codes "run program r"
+        codes "event add /d" ∷ codes "env ACTION=add" ∷ codes "env DEVPATH=/d"
+        ∷ codes "env SUBSYSTEM=m" ∷ codes "env USEC_INITIALIZED=7" ∷ codes "run program r"
         ∷ codes "note -: stored by udev: USEC_INITIALIZED" ∷ codes "" ∷ []) }
-    ensures later { answered_as_udev [] (codes "C: change\nP: /d\nE: USEC_INITIALIZED=7")
-        ≡ codes "event change /d\nenv ACTION=change\nenv DEVPATH=/d\nenv USEC_INITIALIZED=7\n\n" }
-    ensures sourced { sourced_as_udev [] (codes "C: plug\nP: /d")
-        ≡ codes "event plug /d\n-: env ACTION=plug\n-: env DEVPATH=/d\nnote -: unknown action: plug\n\n" }
+    ensures later { answered_as_udev [] (codes "C: change\nP: /d\nU: m\nE: USEC_INITIALIZED=7")
+        ≡ codes "event change /d\nenv ACTION=change\nenv DEVPATH=/d\nenv SUBSYSTEM=m\nenv USEC_INITIALIZED=7\n\n" }
+    ensures sourced { sourced_as_udev [] (codes "C: plug\nP: /d\nU: m")
+        ≡ codes "event plug /d\n-: env ACTION=plug\n-: env DEVPATH=/d\n-: env SUBSYSTEM=m\nnote -: unknown action: plug\n\n" }
+    ensures subsystem { answered_as_udev (codes "ENV{F}=\"1\"") (codes "C: add\nP: /d\nE: A=1")
+        ≡ codes "event add /d\nenv A=1\nenv ACTION=add\nenv DEVPATH=/d\nnote -: no subsystem, so no rule is tried: /d\n\n" }
     ensures manual { answered [] (codes "C: plug\nP: /sys/d")
         ≡ codes "event plug /sys/d\nenv ACTION=plug\nenv DEVPATH=/sys/d\n\n" }
 {}
@@ -192,14 +197,14 @@ pub fn an_assignment_that_asks_for_another_device_is_noted_for_udev()
         (text (
         codes "ENV{A}=\"$attr{a}$attr{../x}$attr{[u/g]b}|\", SYMLINK+=\"$attr{[u/g]l}\"" ∷ codes "KERNEL==\"none\", ENV{B}=\"$attr{[u/g]c}\""
         ∷ codes "RUN+=\"r$attr{[u/g]d}\", CONST{virt}!=\"kvm\"" ∷ []))
-        (codes "C: add\nP: /d\nA: a=1")
+        (codes "C: add\nP: /d\nU: m\nA: a=1")
         ≡ text (
-        codes "event add /d" ∷ codes "env A=1|" ∷ codes "env ACTION=add" ∷ codes "env DEVPATH=/d" ∷ codes "run program r"
+        codes "event add /d" ∷ codes "env A=1|" ∷ codes "env ACTION=add" ∷ codes "env DEVPATH=/d" ∷ codes "env SUBSYSTEM=m" ∷ codes "run program r"
         ∷ codes "note r.rules:1: no device number: SYMLINK" ∷ codes "note r.rules:3: constant not given: virt"
         ∷ codes "note r.rules:1: attribute not read: ../x" ∷ codes "note r.rules:3: attribute not read: [u/g]d" ∷ codes "" ∷ []) }
-    ensures sourced { sourced_as_udev (codes "TAG+=\"t$attr{[u/g]b}\"") (codes "C: add\nP: /d")
+    ensures sourced { sourced_as_udev (codes "TAG+=\"t$attr{[u/g]b}\"") (codes "C: add\nP: /d\nU: m")
         ≡ text (
-        codes "event add /d" ∷ codes "r.rules:1: tag t" ∷ codes "-: env ACTION=add" ∷ codes "-: env DEVPATH=/d"
+        codes "event add /d" ∷ codes "r.rules:1: tag t" ∷ codes "-: env ACTION=add" ∷ codes "-: env DEVPATH=/d" ∷ codes "-: env SUBSYSTEM=m"
         ∷ codes "note r.rules:1: attribute not read: [u/g]b" ∷ codes "" ∷ []) }
     ensures manual { answered (codes "ENV{A}=\"$attr{../x}|\"") (codes "C: add\nP: /d")
         ≡ codes "event add /d\nenv A=|\nenv ACTION=add\nenv DEVPATH=/d\n\n" }

@@ -21,7 +21,7 @@ pub fn rules_that_no_event_met_are_told()
     ensures none { unused_by Manual (codes "ENV{A}=\"1\"\n") []
         ≡ codes "unused r.rules:1: not reached\n" }
     ensures skipped { unused_by Udev (text (codes "KERNEL==\"d\", OPTIONS=\"static_node=x\"" ∷ codes "KERNEL==\"e\", OPTIONS=\"static_node=x\"" ∷ []))
-        (codes "C: add\nP: /d")
+        (codes "C: add\nP: /d\nU: m")
         ≡ codes "unused r.rules:2: KERNEL==\"e\" failed 1 of 1\n" }
 {}
 

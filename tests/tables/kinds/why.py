@@ -26,8 +26,10 @@ def why(name, rules, lines, wanted, *courses, path="/d", asked=("r.rules",), mes
 
     `wanted` are the lines that its answer has in addition to the event, ACTION and DEVPATH. `courses` are lists of what
     follows them, as `of` gives them: each line without its `why r.rules:`. `files` and `root` may hold a database, and
-    `options` are added. `udev` evaluates as udev itself does. A root that exists leaves the note that its rules are not read.
+    `options` are added. `udev` evaluates as udev itself does, a device of the subsystem `m` unless a line says otherwise. A root that exists leaves the note that its rules are not read.
     """
+    if udev and not any(as_bytes(line).startswith(b"U: ") for line in lines):
+        lines, wanted = ["U: m", *lines], ["env SUBSYSTEM=m", *wanted]
     answered = answer(path, wanted)
     reported = b"".join(b"why r.rules:" + line + b"\n" for course in courses for line in course)
     noted = b"" if root == "none" else b"devdry: %s: its rules are not read beside a FILE that is named: --with FILE reads FILE among them\n" % root.encode()

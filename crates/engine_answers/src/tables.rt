@@ -10,7 +10,7 @@ use device_core::Event;
 use device_notes::lacks_event;
 use engine_sessions::Answering;
 use eval_core::{Program, compile};
-use eval_unread::{ask_others, evaluate_whole, with_unread};
+use eval_unread::{ask_others, completed, evaluate_whole};
 use rule_types::{Rule, RuleSet};
 use std::alloc::{AllocError, Global};
 use std::marker::Model;
@@ -111,7 +111,7 @@ fn answer_with_rules<K: Knowledge>(
     ensures { IfOk result (λ text. text ≡ answer event.now (whole_outcome program.now (K.known knowledge.now) event.now)) }
 {
     let own = program.evaluate(alloc, event, knowledge)?;
-    let outcome = with_unread(alloc, asks, program.rules(), event, knowledge, own)?;
+    let outcome = completed(alloc, asks, program.rules(), event, knowledge, own)?;
     let said = answer(alloc, event, &outcome);
     drop(outcome);
     said

@@ -1,5 +1,6 @@
 -- IMPORT, by where it takes properties from. Each returns the scene after it, and whether it was done.
-use Rattle.std.specs.Prelude.{Bool, true, false, not, ◌==◌, if◌then◌else◌, List, length, filter, Option, Some, None, codes}
+use Rattle.std.specs.Prelude.{Bool, true, false, not, ◌==◌, if◌then◌else◌, List, [], length, filter, Option, Some, None, codes, is_some}
+use Rattle.std.specs.Option.{option_and_then}
 use Rattle.text_bytes.specs.Texts.{is_empty}
 use Rattle.text_bytes.specs.declared.profile.Profile.{Profile}
 use Rattle.text_bytes.specs.declared.profile.Profile.TheVariants.{Manual, Udev}
@@ -77,10 +78,15 @@ run_builtin known r command s = builtin_run known r command (builtin s.state.eve
 abbrev pub names_fitting : List (List Item) → List Pair → List Pair
 names_fitting names properties = filter (λ property. choice_fits names property.0) properties
 
+-- the properties that IMPORT{parent} looks at: for udev a device without a subsystem has none
+abbrev pub parent_properties : Profile → DeviceValue → List Pair
+parent_properties Manual parent = parent.env
+parent_properties Udev parent = if is_some parent.subsystem then given_properties Udev parent.env else []
+
 -- IMPORT{parent} takes the properties of the second device whose names fit; it was done if there is such a device
 abbrev pub from_parent : List (List Item) → Option DeviceValue → Scene → Scene × Bool
 from_parent names None s = (s, false)
-from_parent names (Some parent) s = (with_env (with_values s.state.env (names_fitting names (given_properties s.state.event.profile parent.env))) s, true)
+from_parent names (Some parent) s = (with_env (with_values s.state.env (names_fitting names (parent_properties s.state.event.profile parent))) s, true)
 
 -- IMPORT{program} of a command of udev's, which the event's block answers
 abbrev pub from_program : Rule → Text → Scene → Scene × Bool
@@ -90,20 +96,27 @@ from_program r command s = from_answer_or_noted r NoAnswer command (value_of s.s
 abbrev pub not_run : Rule → ImportType → Scene → Scene × Bool
 not_run r type s = (noted r ImportNotRun (import_name type) s, false)
 
--- the kernel's command line in which a name is looked up, if the event gives it; udev looks up no empty name
-abbrev pub line_for : Text → EventValue → Option Text
-line_for name event = if is_empty name then None else value_of event.constants (codes "cmdline")
+-- the constant of an event in which a name is looked up; udev looks up no empty name
+abbrev pub words_for : (constant name : Text) → EventValue → Option Text
+words_for constant name event = if is_empty name then None else value_of event.constants constant
 
 -- a name is set to what the kernel's command line gives it; it was done if that gives anything
 abbrev pub name_given : Text → Option Text → Scene → Scene × Bool
 name_given name None s = (s, false)
 name_given name (Some value) s = (with_env (property_set name value s.state.env) s, true)
 
--- IMPORT{cmdline} of a name of udev's, by the kernel's command line
-abbrev pub from_line : Rule → Text → Option Text → Scene → Scene × Bool
-from_line r name None s = not_run r Cmdline s
-from_line r name (Some line) s = name_given name (cmdline_value name line) s
+-- IMPORT{cmdline} of a name of udev's, by what some of the words on the kernel's command line give it: if they give it nothing, it
+-- is not known whether others do
+abbrev pub from_part : Rule → Text → Option Text → Scene → Scene × Bool
+from_part r name None s = not_run r Cmdline s
+from_part r name (Some value) s = name_given name (Some value) s
 
--- IMPORT{cmdline} of a name of udev's, by the kernel's command line that the event gives
+-- IMPORT{cmdline} of a name of udev's, by the kernel's command line, or without it by some of its words
+abbrev pub from_line : Rule → Text → (line part : Option Text) → Scene → Scene × Bool
+from_line r name None part s = from_part r name (option_and_then (cmdline_value name) part) s
+from_line r name (Some line) part s = name_given name (cmdline_value name line) s
+
+-- IMPORT{cmdline} of a name of udev's, by what the event gives of the kernel's command line: all of it, or some words
 abbrev pub from_cmdline : Rule → Text → Scene → Scene × Bool
-from_cmdline r name s = from_line r name (line_for name s.state.event) s
+from_cmdline r name s =
+    from_line r name (words_for (codes "cmdline") name s.state.event) (words_for (codes "cmdline.part") name s.state.event) s

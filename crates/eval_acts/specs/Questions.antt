@@ -1,7 +1,7 @@
 -- TEST and PROGRAM: what the event answers. Each returns the scene after it, and whether it was done.
-use Rattle.std.specs.Prelude.{ℕ, Bool, true, false, ◌==◌, ◌||◌, if◌then◌else◌, Option, Some, None, is_some}
+use Rattle.std.specs.Prelude.{ℕ, Bool, true, false, ◌==◌, ◌&&◌, ◌||◌, if◌then◌else◌, Option, Some, None, codes, is_some}
 use Rattle.text_bytes.specs.Names.{slash}
-use Rattle.text_bytes.specs.Texts.{begins_with}
+use Rattle.text_bytes.specs.Texts.{begins_with, following}
 use Rattle.text_bytes.specs.declared.profile.Profile.{Profile}
 use Rattle.text_bytes.specs.declared.profile.Profile.TheVariants.{Manual, Udev}
 use Rattle.text_bytes.specs.Text.{Text}
@@ -10,11 +10,14 @@ use Rattle.device_core.specs.Values.{AnswerValue, DeviceValue, EventValue}
 use Rattle.rule_types.specs.Rules.{Rule}
 use Rattle.text_links.specs.Safe.{attribute_marks, safe}
 use Rattle.eval_state.specs.Chains.{device_at}
+use Rattle.eval_state.specs.Files.{is_end}
 use Rattle.eval_state.specs.Named.{NamedValue, named, named_place}
 use Rattle.eval_state.specs.Places.{is_there, place_of}
 use Rattle.eval_state.specs.Scenes.{noted}
 use Rattle.eval_state.specs.declared.note_kind.NoteKind.TheVariants.{TestNotMade, NoAnswer}
 use Rattle.eval_state.specs.declared.scene.Scene.{Scene}
+use Rattle.eval_rendering.specs.Behind.{linked_device}
+use Rattle.eval_matching.specs.Attributes.{is_not_read}
 
 -- the result, changed
 abbrev pub with_result : Text → Scene → Scene
@@ -36,9 +39,25 @@ abbrev pub tested_at : Option ℕ → Rule → Text → Text → Scene → Scene
 tested_at None r name path s = tested_elsewhere r path s
 tested_at (Some place) r name path s = (s, is_found s.state.event name (device_at s.state.event place))
 
+-- whether something is behind the link `device` of a device, or is that link, by what follows its name in a path
+abbrev pub is_behind : EventValue → DeviceValue → Option Text → Bool
+is_behind event device None = false
+is_behind event device (Some rest) = is_end (Some rest) && is_found event rest (linked_device event device)
+
+-- whether something is where a path leads from the folder of a device
+abbrev pub is_somewhere : EventValue → DeviceValue → Text → Bool
+is_somewhere event device path = is_there event (place_of device path) || is_behind event device (following (codes "device") path)
+
+-- TEST of a path that names no device: it is not made if the block does not tell what is there
+abbrev pub tested_here : Rule → Text → Scene → Scene × Bool
+tested_here r path s =
+    if is_somewhere s.state.event s.state.event.device path then (s, true)
+    else if is_not_read path s.state.event then (noted r TestNotMade path s, false)
+    else (s, false)
+
 -- TEST as udev makes it: of a file or a folder of the event device, or of the device that the path names
 abbrev pub tested_by_udev : Option NamedValue → Rule → Text → Scene → Scene × Bool
-tested_by_udev None r path s = (s, is_there s.state.event (place_of s.state.event.device path))
+tested_by_udev None r path s = tested_here r path s
 tested_by_udev (Some n) r path s = tested_at (named_place n s.state.event) r n.attribute path s
 
 -- TEST of a relative path without a mask: by the manual it asks for an attribute of the event device

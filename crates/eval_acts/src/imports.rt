@@ -1,5 +1,6 @@
 //! Properties that IMPORT takes from elsewhere.
 ghost use Rattle.std.specs.Prelude.{◌≡◌, IfOk, OnErr, OnOk, option_map};
+ghost use Rattle.std.specs.Option.{option_and_then};
 ghost use Rattle.text_tables.specs.Pairs.{value_of, with_values};
 ghost use Rattle.hwdb_lookup.specs.Query.{shown};
 ghost use Rattle.eval_state.specs.Chains.{device_at};
@@ -7,16 +8,17 @@ ghost use Rattle.text_bytes.specs.declared.profile.Profile.TheVariants.{Udev};
 ghost use Rattle.eval_state.specs.Properties.{given_properties, properties_set};
 ghost use Rattle.eval_state.specs.declared.note_kind.NoteKind.TheVariants.{BuiltinNotRun};
 ghost use Rattle.eval_commands.specs.Builtins.{builtin_question};
+ghost use Rattle.eval_commands.specs.Cmdline.{cmdline_value};
 ghost use Rattle.text_core.specs.Choices.{choice_fits};
 ghost use Rattle.eval_acts.specs.Acts.{from_parent_by};
-ghost use Rattle.eval_acts.specs.Imports.{from_answer, from_answer_or_noted, from_cmdline, from_parent, from_program, line_for, name_given};
-ghost use Rattle.eval_acts.specs.Imports.{names_fitting, not_run, run_builtin, taken, with_found};
+ghost use Rattle.eval_acts.specs.Imports.{from_answer, from_answer_or_noted, from_cmdline, from_parent, from_part, from_program, name_given};
+ghost use Rattle.eval_acts.specs.Imports.{names_fitting, not_run, parent_properties, run_builtin, taken, with_found, words_for};
 
 use crate::builtin_runs::{run_input_id, run_net_id, run_net_setup_link, run_path_id, run_usb_id};
 use crate::hwdb_runs::run_hwdb;
 use crate::printed::set_printed;
 use builtin_knowledge::Knowledge;
-use device_core::{Event, ProgramAnswer};
+use device_core::{Device, Event, ProgramAnswer};
 use eval_commands::{Builtin, Request, builtin_question, cmdline_value, other_name, request_of};
 use eval_state::{NoteKind, Scene, set_property};
 use rule_types::{ImportType, Rule};
@@ -224,13 +226,14 @@ fn set_given_fitting(
     profile: Profile,
     env: &mut CowPairs<'_>,
     names: &[Pattern],
-    properties: &Pairs<'_>,
+    parent: &Device<'_>,
 ) -> Result<(), AllocError>
-    ensures { OnOk result (env.new ≡ with_values env.old (names_fitting names.now (given_properties profile properties.now))) }
+    ensures { OnOk result (env.new ≡ with_values env.old (names_fitting names.now (parent_properties profile parent.now))) }
 {
     match profile {
-        Profile::Manual => set_fitting(alloc, env, names, properties),
-        Profile::Udev => set_filled_fitting(alloc, env, names, properties),
+        Profile::Manual => set_fitting(alloc, env, names, parent.env()),
+        Profile::Udev if parent.subsystem().is_none() => Ok(()),
+        Profile::Udev => set_filled_fitting(alloc, env, names, parent.env()),
     }
 }
 
@@ -246,7 +249,7 @@ fn import_fitting(
     match scene.state.event.device_at(1) {
         Some(parent) => {
             let profile = scene.state.event.event().profile();
-            set_given_fitting(alloc, profile, &mut scene.state.env, names, parent.env())?;
+            set_given_fitting(alloc, profile, &mut scene.state.env, names, parent)?;
             Ok(true)
         }
         None => Ok(false),
@@ -305,14 +308,14 @@ pub(crate) fn not_run(
     Ok(false)
 }
 
-/// The kernel's command line in which a name is looked up, if the event's block gives it; no empty name is.
-pub fn line_for<'a>(name: &[u8], event: &Event<'a>) -> Option<&'a [u8]>
-    ensures { option_map (λ line. line.now) result ≡ line_for name.now event.now }
+/// The constant of an event in which a name is looked up; no empty name is.
+fn words_for<'a>(constant: &[u8], name: &[u8], event: &Event<'a>) -> Option<&'a [u8]>
+    ensures { option_map (λ words. words.now) result ≡ words_for constant.now name.now event.now }
 {
     if name.is_empty() {
         None
     } else {
-        event.constants().get(b"cmdline")
+        event.constants().get(constant)
     }
 }
 
@@ -335,7 +338,38 @@ fn set_given(
     }
 }
 
-/// IMPORT{cmdline} for udev, by the kernel's command line that the event's block gives.
+/// What some of the words on the kernel's command line give a name.
+fn given_by_part(
+    alloc: Global,
+    name: &[u8],
+    part: Option<&[u8]>,
+) -> Result<Option<Bytes>, AllocError>
+    ensures { IfOk result (λ given. given ≡ option_and_then (cmdline_value name.now) (option_map (λ t. t.now) part.entry)) }
+{
+    match part {
+        Some(words) => cmdline_value(alloc, name, words),
+        None => Ok(None),
+    }
+}
+
+/// IMPORT{cmdline} for udev, by what some of the words on the kernel's command line give the name.
+fn import_part(
+    alloc: Global,
+    rule: &Rule,
+    name: &[u8],
+    given: Option<Bytes>,
+    scene: &mut Scene<'_>,
+) -> Result<bool, AllocError>
+    ensures scene { IfOk result (λ done. (scene.new, done) ≡ from_part rule.now name.now given scene.old) }
+    ensures refused { OnErr result (scene.new.state.event ≡ scene.old.state.event) }
+{
+    match given {
+        Some(value) => set_given(alloc, name, Some(value), scene),
+        None => not_run(alloc, rule, ImportType::Cmdline, scene),
+    }
+}
+
+/// IMPORT{cmdline} for udev, by the kernel's command line that the event's block gives, or by some of its words.
 pub(crate) fn import_cmdline(
     alloc: Global,
     rule: &Rule,
@@ -345,8 +379,12 @@ pub(crate) fn import_cmdline(
     ensures scene { IfOk result (λ done. (scene.new, done) ≡ from_cmdline rule.now name.now scene.old) }
     ensures refused { OnErr result (scene.new.state.event ≡ scene.old.state.event) }
 {
-    match line_for(name, scene.state.event.event()) {
+    let event = scene.state.event.event();
+    match words_for(b"cmdline", name, event) {
         Some(line) => set_given(alloc, name, cmdline_value(alloc, name, line)?, scene),
-        None => not_run(alloc, rule, ImportType::Cmdline, scene),
+        None => {
+            let given = given_by_part(alloc, name, words_for(b"cmdline.part", name, event))?;
+            import_part(alloc, rule, name, given, scene)
+        }
     }
 }

@@ -16,7 +16,6 @@ mod unread;
 
 pub use act_texts::{import_text, names_text, program_text, test_text};
 pub use acting::act_step;
-pub use imports::line_for;
 pub use reaching::match_reached;
 pub use stored::{is_removal, is_stored_known};
 pub use unread::first_unread;

@@ -1,16 +1,17 @@
 //! TEST and PROGRAM: what the event answers.
-ghost use Rattle.std.specs.Prelude.{◌≡◌, [], IfOk, OnErr, option_copied};
-ghost use Rattle.eval_acts.specs.Questions.{answered, answered_by_block, is_found, result_of, tested, tested_at};
-ghost use Rattle.eval_acts.specs.Questions.{tested_by, tested_by_udev, tested_elsewhere, with_result};
+ghost use Rattle.std.specs.Prelude.{◌≡◌, [], IfOk, OnErr, option_copied, option_map};
+ghost use Rattle.eval_acts.specs.Questions.{answered, answered_by_block, is_behind, is_found, is_somewhere, result_of, tested, tested_at};
+ghost use Rattle.eval_acts.specs.Questions.{tested_by, tested_by_udev, tested_elsewhere, tested_here, with_result};
 ghost use Rattle.eval_state.specs.Named.{named};
 ghost use Rattle.eval_state.specs.Places.{is_there, place_of};
 
 use device_core::{Device, Event, ProgramAnswer};
-use eval_rendering::attribute_safe;
-use eval_state::{Named, NoteKind, Place, Scene};
+use eval_matching::is_not_read;
+use eval_rendering::{attribute_safe, linked_device};
+use eval_state::{Chain, Named, NoteKind, Place, Scene};
 use rule_types::Rule;
 use std::alloc::{AllocError, Global};
-use text_bytes::{Bytes, Profile, begins_with};
+use text_bytes::{Bytes, Profile, begins_with, following};
 
 /// Whether something is where a name leads in the folder of a device.
 fn leads_somewhere<'a>(
@@ -80,6 +81,53 @@ fn look_at(
     }
 }
 
+/// Whether something is behind the link `device` of a device, or is that link, by what follows its name in a path.
+fn is_behind(
+    alloc: Global,
+    chain: &Chain<'_>,
+    device: &Device<'_>,
+    rest: Option<&[u8]>,
+) -> Result<bool, AllocError>
+    ensures { IfOk result (λ found. found ≡ is_behind chain.now device.now (option_map (λ t. t.now) rest.entry)) }
+{
+    match rest {
+        Some(rest) if rest.is_empty() || begins_with(b'/', rest) => {
+            is_found(alloc, chain.event(), linked_device(chain, device), rest)
+        }
+        _ => Ok(false),
+    }
+}
+
+/// Whether something is where a path leads from the folder of the event device.
+fn is_somewhere(alloc: Global, chain: &Chain<'_>, path: &[u8]) -> Result<bool, AllocError>
+    ensures { IfOk result (λ found. found ≡ is_somewhere chain.now chain.now.device path.now) }
+{
+    let device = chain.device();
+    if leads_somewhere(alloc, chain.event(), device, path)? {
+        return Ok(true);
+    }
+    is_behind(alloc, chain, device, following(b"device", path))
+}
+
+/// TEST of a path that names no device, which is not made if the block does not tell what is there.
+fn look_here(
+    alloc: Global,
+    rule: &Rule,
+    path: &[u8],
+    scene: &mut Scene<'_>,
+) -> Result<bool, AllocError>
+    ensures scene { IfOk result (λ done. (scene.new, done) ≡ tested_here rule.now path.now scene.old) }
+    ensures refused { OnErr result (scene.new.state.event ≡ scene.old.state.event) }
+{
+    if is_somewhere(alloc, &scene.state.event, path)? {
+        return Ok(true);
+    }
+    if is_not_read(path, &scene.state.event) {
+        scene.note(alloc, rule, NoteKind::TestNotMade, path)?;
+    }
+    Ok(false)
+}
+
 /// TEST as udev makes it: of a file or a folder of the event device, or of the device that the path names.
 fn look_as_udev(
     alloc: Global,
@@ -95,10 +143,7 @@ fn look_as_udev(
             let place = scene.state.event.named_place(&named);
             look_at(alloc, rule, place, named.attribute, path, scene)
         }
-        None => {
-            let event = scene.state.event.event();
-            leads_somewhere(alloc, event, event.device(), path)
-        }
+        None => look_here(alloc, rule, path, scene),
     }
 }
 

@@ -27,6 +27,7 @@ mod written;
 pub use escapes::Escape;
 pub use finals::{final_key, is_settled};
 pub use laws::{kept_links_are_plain, plain_paths_are_links, reported_modes_are_read_back};
+pub use modes::four_digits;
 pub use names::is_interface;
 pub use step::{lacks_number, set_all, set_one};
 pub use written::written_name;

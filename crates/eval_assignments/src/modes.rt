@@ -17,7 +17,7 @@ fn octal_digit(number: u32) -> u8
 }
 
 /// A mode as four octal digits, the most significant first.
-fn four_digits(alloc: Global, mode: u32) -> Result<Bytes, AllocError>
+pub fn four_digits(alloc: Global, mode: u32) -> Result<Bytes, AllocError>
     requires { mode < 8 ^ 4 }
     ensures { IfOk result (λ digits. digits ≡ four_digits mode) }
 {

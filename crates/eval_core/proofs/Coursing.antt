@@ -151,7 +151,7 @@ module _ (state : State) (manual : state.event.profile ≡ Manual) where
   no_attribute part name found key equal e h place within =
       let d : DeviceValue = get_or (chain state.event) place state.event.device in
       ap (λ k. holds (up_subject k state place) part.wanted) key
-      ∙ ap (λ by. holds (attribute_by by name state.event (option_and_then (λ device. value_by by name (tried state place) device) (device_at state.event place))) part.wanted) manual
+      ∙ ap (λ by. holds (attribute_by by name state.event (device_at state.event place) (option_and_then (λ device. value_by by name (tried state place) device) (device_at state.event place))) part.wanted) manual
       ∙ ap (λ (o : Option DeviceValue). holds (attribute (option_and_then (λ device. value_of device.attrs name) o)) part.wanted) (device place within)
       ∙ attribute_missed part.wanted found (value_of d.attrs name) e (missing place d name found (device place within) h (value_of d.attrs name) refl)
       ∙ ap (λ o. agrees o false) equal

@@ -1,15 +1,15 @@
 -- What TEST, PROGRAM and IMPORT met, by the scene before them and the scene after.
-use Rattle.std.specs.Prelude.{Bool, false, not, ◌==◌, ◌&&◌, ◌||◌, if◌then◌else◌, List, [], ◌∷◌, ◌++◌, length, map, filter, Option, Some, None, is_none, is_some}
+use Rattle.std.specs.Prelude.{Bool, not, ◌==◌, if◌then◌else◌, List, [], ◌∷◌, ◌++◌, length, map, filter, Option, Some, None, is_none}
 use Rattle.std.specs.Prelude.{codes, decimal}
-use Rattle.text_bytes.specs.Names.{equals, slash, space}
-use Rattle.text_bytes.specs.Texts.{begins_with, is_empty}
+use Rattle.text_bytes.specs.Names.{equals, space}
+use Rattle.text_bytes.specs.Texts.{is_empty}
 use Rattle.text_bytes.specs.Escapes.{escape_text}
 use Rattle.text_bytes.specs.declared.profile.Profile.{Profile}
 use Rattle.text_bytes.specs.declared.profile.Profile.TheVariants as profile
 use Rattle.text_bytes.specs.Text.{Text}
 use Rattle.text_tables.specs.Pairs.{Pair, value_of}
 use Rattle.builtin_knowledge.specs.Knowledge.{Known}
-use Rattle.device_core.specs.Values.{AnswerValue, EventValue}
+use Rattle.device_core.specs.Values.{AnswerValue}
 use Rattle.rule_templates.specs.Template.{Parts as Template}
 use Rattle.rule_types.specs.declared.part.Act.{Act}
 use Rattle.rule_types.specs.declared.part.ActKind.{ActKind}
@@ -20,13 +20,10 @@ use Rattle.rule_types.specs.Rules.{Rule}
 use Rattle.eval_rendering.specs.Bounds.{most_command_bytes, most_path_bytes}
 use Rattle.eval_rendering.specs.declared.rendered.Rendered.{Rendered}
 use Rattle.eval_rendering.specs.declared.rendered.Rendered.TheVariants as rendered
-use Rattle.eval_state.specs.Places.{is_there, place_of}
-use Rattle.eval_state.specs.Named.{NamedValue, named, named_place}
 use Rattle.eval_state.specs.declared.scene.Scene.{Scene}
 use Rattle.eval_state.specs.declared.state.State.{State}
 use Rattle.eval_acts.specs.ActTexts.{import_text, names_text, program_text, test_text}
 use Rattle.eval_acts.specs.Acts.{act_step}
-use Rattle.eval_acts.specs.Imports.{line_for}
 use Rattle.eval_acts.specs.Stored.{is_stored_known}
 use Rattle.eval_effects.specs.Items.{is_present}
 use Rattle.eval_effects.specs.Shown.{joined, shown}
@@ -38,25 +35,9 @@ abbrev pub on_rendered : (Text → Text) → Rendered → Text
 on_rendered reported (rendered.Text text) = reported text
 on_rendered reported rendered.TooLong = codes "too long"
 
--- whether a device that is named is not in the chain
-abbrev pub is_elsewhere : EventValue → Option NamedValue → Bool
-is_elsewhere event None = false
-is_elsewhere event (Some n) = is_none (named_place n event)
-
--- whether a TEST asks for a file of a device that is not in the chain, and the event device does not have it under this
--- whole path; the manual knows no such paths
-abbrev pub asks_elsewhere : Profile → Text → EventValue → Bool
-asks_elsewhere profile.Manual path event = false
-asks_elsewhere profile.Udev path event = is_elsewhere event (named path) && not (is_there event (place_of event.device path))
-
--- whether a TEST is not made, by whether it has a mask: with one it is not, nor with an absolute path or for a device
--- that is not in the chain
-abbrev pub is_unmade : Bool → Text → EventValue → Bool
-is_unmade has_mask path event = has_mask || (begins_with slash path || asks_elsewhere event.profile path event)
-
--- the path of a TEST, by whether it has a mask
-abbrev pub path_report : Bool → EventValue → Text → Text
-path_report has_mask event path = if is_unmade has_mask path event then codes "not made: " ++ shown path else shown path
+-- the path of a TEST, by whether it left a note: it is then not made
+abbrev pub path_report : (noted : Bool) → Text → Text
+path_report noted path = if noted then codes "not made: " ++ shown path else shown path
 
 -- a text after a space; an empty one is left out with its space
 abbrev pub spaced : Text → Text
@@ -122,15 +103,10 @@ abbrev pub file_report : Profile → Template → State → (noted : Bool) → L
 file_report profile.Manual template s noted env = codes "not run"
 file_report profile.Udev template s noted env = on_rendered (λ path. noted_report noted s.env env) (import_text most_path_bytes template s)
 
--- what an IMPORT{cmdline} met, by the kernel's command line, if the event gives it, and the properties after it
-abbrev pub line_report : (line : Option Text) → State → List Pair → Text
-line_report None s env = codes "not run"
-line_report (Some line) s env = taken_report s.env env
-
--- what an IMPORT{cmdline} met, by the properties after it; by the manual it is not run
-abbrev pub cmdline_report : Profile → (name : Text) → State → List Pair → Text
-cmdline_report profile.Manual name s env = codes "not run"
-cmdline_report profile.Udev name s env = line_report (line_for name s.event) s env
+-- what an IMPORT{cmdline} met, by whether it left a note and the properties after it; by the manual it is not run
+abbrev pub cmdline_report : Profile → State → (noted : Bool) → List Pair → Text
+cmdline_report profile.Manual s noted env = codes "not run"
+cmdline_report profile.Udev s noted env = noted_report noted s.env env
 
 -- what an IMPORT{db} met, by the properties after it; by the manual it is not run, nor if it is not known what was stored
 abbrev pub stored_report : Profile → State → List Pair → Text
@@ -144,12 +120,12 @@ import_report (import.Builtin template) s noted env =
 import_report (import.Parent names value) s noted env = parent_report s.event.profile value s env
 import_report (import.Program template) s noted env = program_import_report s.event.profile template s env
 import_report (import.File template) s noted env = file_report s.event.profile template s noted env
-import_report (import.Cmdline name) s noted env = cmdline_report s.event.profile name s env
+import_report (import.Cmdline name) s noted env = cmdline_report s.event.profile s noted env
 import_report (import.Db name) s noted env = stored_report s.event.profile s env
 
 -- what an act met, by whether it left a note and the properties after it
 abbrev pub act_kind_report : ActKind → State → (noted : Bool) → List Pair → Text
-act_kind_report (act_kind.Test mask template) s noted env = on_rendered (path_report (is_some mask) s.event) (test_text template s)
+act_kind_report (act_kind.Test mask template) s noted env = on_rendered (path_report noted) (test_text template s)
 act_kind_report (act_kind.Program template) s noted env =
     on_rendered (λ command. answer_report command (value_of s.event.programs command)) (program_text template s)
 act_kind_report (act_kind.Import from) s noted env = import_report from s noted env

@@ -1,6 +1,6 @@
 -- Serves inner proofs only: what is known about an act before it is done, what a match looks at as it is borrowed,
 -- and what is reported and asked moment by moment.
-use Rattle.std.specs.Prelude.{ℕ, ◌+◌, Bool, List, [], ◌∷◌, ◌++◌, map, option_map, codes}
+use Rattle.std.specs.Prelude.{ℕ, ◌+◌, Bool, if◌then◌else◌, List, [], ◌∷◌, ◌++◌, map, option_map, codes}
 use Rattle.text_bytes.specs.Text.{Text}
 use Rattle.text_tables.specs.Pairs.{Pair}
 use Rattle.rule_types.specs.declared.part.Act.{Act}
@@ -29,6 +29,7 @@ abbrev pub report_after : ReportBefore → (noted : Bool) → List Pair → Text
 report_after (before.Whole text) noted env = text
 report_after (before.Taking text properties) noted env = text ++ taken_report properties env
 report_after (before.Importing properties) noted env = noted_report noted properties env
+report_after (before.Testing path) noted env = if noted then codes "not made: " ++ path else path
 
 -- an act that was done, whether its rule goes on, and what it met
 unfoldable pub done_report : Act → ReportBefore → Scene → Went → Text

@@ -37,7 +37,7 @@ looked unread = codes "not read"
 looked (udev_subsystem text) = shown text
 looked (udev_attribute value) = value_report value
 looked (udev_members texts) = members_report texts
-looked udev_unread = codes "not read"
+looked udev_unread = codes "not in the block"
 
 -- a match of the event, and what it met
 unfoldable pub plain_report : PlainMatch → State → Text

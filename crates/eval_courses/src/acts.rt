@@ -2,13 +2,12 @@
 //!
 //! What an act looks at is rendered before it is done, and what it sets is known after it: what is reported of it is
 //! made in two parts.
-ghost use Rattle.std.specs.Prelude.{◌≡◌, ◌∷◌, ◌++◌, [], Bool, IfOk, OnOk, List};
+ghost use Rattle.std.specs.Prelude.{◌≡◌, ◌∷◌, ◌++◌, [], Bool, IfOk, OnOk, List, codes, if◌then◌else◌};
 ghost use Rattle.text_tables.specs.Pairs.{Pair, value_of};
 ghost use Rattle.eval_acts.specs.ActTexts.{program_text, test_text};
 ghost use Rattle.eval_acts.specs.Acts.{act_step};
-ghost use Rattle.eval_state.specs.Named.{named};
-ghost use Rattle.eval_courses.specs.Acts.{act_kind_report, act_report, answer_report, asks_elsewhere};
-ghost use Rattle.eval_courses.specs.Acts.{is_elsewhere, noted_report, on_rendered, path_report, taken_report};
+ghost use Rattle.eval_courses.specs.Acts.{act_kind_report, act_report, answer_report};
+ghost use Rattle.eval_courses.specs.Acts.{noted_report, on_rendered, path_report, taken_report};
 ghost use Rattle.eval_courses.specs.Inner.{done_report, report_after};
 ghost use Rattle.eval_courses.specs.Keys.{act_key};
 ghost use Rattle.eval_courses.specs.Looks.{met};
@@ -22,11 +21,11 @@ use builtin_knowledge::Knowledge;
 use eval_acts::{act_step, program_text, test_text};
 use eval_effects::push_shown;
 use eval_rendering::Rendered;
-use eval_state::{Chain, Named, Place, Scene, State};
+use eval_state::{Scene, State};
 use rule_templates::Template;
 use rule_types::{Act, ActKind, Rule};
 use std::alloc::{AllocError, Global};
-use text_bytes::{Bytes, Profile, begins_with};
+use text_bytes::Bytes;
 use text_tables::CowPairs;
 
 /// What is known of the report on an act before it is done.
@@ -39,62 +38,26 @@ pub(crate) enum ReportBefore {
     Taking(Bytes, CowPairs<'static>),
     /// The properties before the act: unless it leaves a note, what it removes and sets.
     Importing(CowPairs<'static>),
+    /// The path of a TEST: if that leaves a note, it is not made.
+    Testing(Bytes),
 }
 
-/// Whether a path names a device that is not in the chain.
-fn is_elsewhere(path: &[u8], chain: &Chain<'_>) -> bool
-    ensures { result ≡ is_elsewhere chain.now (named path.now) }
-{
-    match Named::read(path) {
-        Some(named) => chain.named_place(&named).is_none(),
-        None => false,
-    }
-}
-
-/// Whether a TEST asks for a file of a device that is not in the chain, and the event device does not have it under this
-/// whole path.
-fn asks_elsewhere(alloc: Global, path: &[u8], chain: &Chain<'_>) -> Result<bool, AllocError>
-    ensures { IfOk result (λ elsewhere. elsewhere ≡ asks_elsewhere chain.now.profile path.now chain.now) }
-{
-    match chain.event().profile() {
-        Profile::Udev if is_elsewhere(path, chain) => {
-            let event = chain.event();
-            let place = Place::of(alloc, event.device(), path)?;
-            Ok(!place.is_there(alloc, event)?)
-        }
-        _ => Ok(false),
-    }
-}
-
-/// What is reported for the path of a TEST.
-fn path_report(
+/// What is known of the report on a TEST before it is made.
+fn test_report_before(
     alloc: Global,
-    has_mask: bool,
-    chain: &Chain<'_>,
-    path: &[u8],
-) -> Result<Bytes, AllocError>
-    ensures { IfOk result (λ text. text ≡ path_report has_mask chain.now path.now) }
-{
-    let mut text = Vec::new(alloc);
-    if has_mask || begins_with(b'/', path) || asks_elsewhere(alloc, path, chain)? {
-        text.extend_from_slice(b"not made: ")?;
-    }
-    push_shown(alloc, &mut text, path)?;
-    Ok(Bytes::new(text))
-}
-
-/// What is reported for a TEST.
-fn test_report(
-    alloc: Global,
-    has_mask: bool,
     template: &Template,
     state: &State<'_>,
-) -> Result<Bytes, AllocError>
-    ensures { IfOk result (λ text. text ≡ on_rendered (path_report has_mask state.now.event) (test_text template.now state.now)) }
+) -> Result<ReportBefore, AllocError>
+    ensures { IfOk result (λ o. (noted : Bool) (env : List Pair)
+        → report_after o noted env ≡ on_rendered (path_report noted) (test_text template.now state.now)) }
 {
     match test_text(alloc, template, state)? {
-        Rendered::Text(path) => path_report(alloc, has_mask, &state.event, path.as_slice()),
-        Rendered::TooLong => Bytes::copy_of(alloc, b"too long"),
+        Rendered::Text(path) => {
+            let mut text = Vec::new(alloc);
+            push_shown(alloc, &mut text, path.as_slice())?;
+            Ok(ReportBefore::Testing(Bytes::new(text)))
+        }
+        Rendered::TooLong => Ok(ReportBefore::Whole(Bytes::copy_of(alloc, b"too long")?)),
     }
 }
 
@@ -124,12 +87,7 @@ fn report_before(
     ensures kept { state.new ≡ state.old }
 {
     match act_kind {
-        ActKind::Test(mask, template) => Ok(ReportBefore::Whole(test_report(
-            alloc,
-            mask.is_some(),
-            template,
-            state,
-        )?)),
+        ActKind::Test(_, template) => test_report_before(alloc, template, state),
         ActKind::Program(template) => Ok(ReportBefore::Whole(program_report(
             alloc, template, state,
         )?)),
@@ -151,6 +109,16 @@ fn push_unless_noted(
         return text.extend_from_slice(b"not run");
     }
     push_taken(alloc, text, before, env)
+}
+
+/// Appends the path of a TEST to a text, by whether that is made.
+fn push_path(text: &mut Vec<u8>, noted: bool, path: &[u8]) -> Result<(), AllocError>
+    ensures { OnOk result (text.new.items ≡ text.old.items ++ (if noted then codes "not made: " ++ path.now else path.now)) }
+{
+    if noted {
+        text.extend_from_slice(b"not made: ")?;
+    }
+    text.extend_from_slice(path)
 }
 
 /// Appends what was removed and set of properties to a text.
@@ -185,6 +153,7 @@ fn push_after(
         ReportBefore::Importing(properties) => {
             push_unless_noted(alloc, text, noted, properties, env)
         }
+        ReportBefore::Testing(path) => push_path(text, noted, path.as_slice()),
     }
 }
 

@@ -15,7 +15,7 @@ ghost use Rattle.eval_rendering.specs.Bounds.{most_command_bytes};
 use crate::acts::ReportBefore;
 use crate::answers::{answer_to, answered_start, unanswered};
 use crate::properties::copied;
-use eval_acts::{import_text, is_stored_known, line_for, names_text};
+use eval_acts::{import_text, is_stored_known, names_text};
 use eval_effects::push_shown;
 use eval_rendering::{MAX_COMMAND_BYTES, MAX_PATH_BYTES, Rendered};
 use eval_state::State;
@@ -170,17 +170,12 @@ fn file_report_before(
 }
 
 /// What is known of the report on an IMPORT{cmdline} before it is done.
-fn cmdline_report_before(
-    alloc: Global,
-    name: &[u8],
-    state: &State<'_>,
-) -> Result<ReportBefore, AllocError>
-    ensures { IfOk result (λ o. (noted : Bool) (env : List Pair) → report_after o noted env ≡ cmdline_report state.now.event.profile name.now state.now env) }
+fn cmdline_report_before(alloc: Global, state: &State<'_>) -> Result<ReportBefore, AllocError>
+    ensures { IfOk result (λ o. (noted : Bool) (env : List Pair) → report_after o noted env ≡ cmdline_report state.now.event.profile state.now noted env) }
 {
-    let event = state.event.event();
-    match (event.profile(), line_for(name, event)) {
-        (Profile::Udev, Some(_)) => taking(alloc, state),
-        _ => Ok(ReportBefore::Whole(Bytes::copy_of(alloc, b"not run")?)),
+    match state.event.event().profile() {
+        Profile::Manual => Ok(ReportBefore::Whole(Bytes::copy_of(alloc, b"not run")?)),
+        Profile::Udev => Ok(ReportBefore::Importing(copied(alloc, &state.env)?)),
     }
 }
 
@@ -208,7 +203,7 @@ pub(crate) fn import_report_before(
         Import::Parent(_, value) => parent_report_before(alloc, value.as_slice(), state),
         Import::Program(template) => program_import_report_before(alloc, template, state),
         Import::File(template) => file_report_before(alloc, template, state),
-        Import::Cmdline(name) => cmdline_report_before(alloc, name.as_slice(), state),
+        Import::Cmdline(_) => cmdline_report_before(alloc, state),
         Import::Db(_) => stored_report_before(alloc, state),
     }
 }

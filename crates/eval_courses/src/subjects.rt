@@ -218,7 +218,7 @@ fn push_attribute(
 {
     match attribute {
         Attribute::Manual(value) | Attribute::Udev(value) => push_value(alloc, text, *value),
-        Attribute::NotRead => text.extend_from_slice(b"not read"),
+        Attribute::NotRead => text.extend_from_slice(b"not in the block"),
     }
 }
 

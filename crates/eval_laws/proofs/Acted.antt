@@ -1,4 +1,6 @@
 -- What a scene weighs after an act of a rule.
+use Rattle.std.proofs.Common.{◌≡◌, ℕ, ◌+◌, ◌≤◌, nat_le, Bool, true, false, ◌==◌, List, [], ◌∷◌, ◌++◌, length, Option, Some, None, is_some, ◌||◌, ap, codes, if◌then◌else◌, refl, arith}
+use Rattle.std.specs.Option.{option_and_then}
 use Rattle.std.proofs.Common.{◌≡◌, ℕ, ◌+◌, ◌*◌, ◌≤◌, nat_le, Bool, true, false, ◌==◌, List, [], ◌∷◌, ◌++◌, length, Option, Some, None, is_some, ◌||◌, ap, codes, if◌then◌else◌, refl, arith}
 use Rattle.std.proofs.lemmas.Bool.{leb-true}
 use Rattle.std.proofs.lemmas.List.Sums.{sum_by-append, sum_by-cons}
@@ -38,6 +40,7 @@ use Rattle.eval_state.specs.Scenes.{noted, with_env}
 use Rattle.eval_state.specs.declared.note_kind.NoteKind.{NoteKind}
 use Rattle.eval_state.specs.declared.note_kind.NoteKind.TheVariants.{AttributeNotRead, BadHwdbArguments, BuiltinNeeds, BuiltinNotRun, ImportNotRun, NoAnswer, TestNotMade, TextTooLong}
 use Rattle.eval_state.specs.declared.scene.Scene.{Scene}
+use Rattle.eval_matching.specs.Attributes.{is_not_read}
 use Rattle.rule_types.specs.Builtins.{builtin_name}
 use Rattle.rule_types.specs.declared.builtins.Builtin.TheVariants.{InputId, NetId, NetSetupLink, PathId, UsbId}
 use Rattle.builtin_devices.specs.Outcomes.{OutcomeValue}
@@ -52,17 +55,17 @@ use Rattle.eval_commands.specs.declared.builtin.Builtin.{Builtin}
 use Rattle.eval_commands.specs.declared.builtin.Builtin.TheVariants as asked_for
 use Rattle.eval_state.specs.Places.{is_there, place_of}
 use Rattle.eval_state.specs.Named.{NamedValue, named, named_place}
-use Rattle.eval_state.specs.Properties.{given_properties, properties_set}
+use Rattle.eval_state.specs.Properties.{properties_set}
 use Rattle.eval_acts.specs.ActTexts.{import_text, names_text, program_text, test_text}
 use Rattle.eval_acts.specs.Acts.{act_step, command_reached, from_parent_by, import_reached, imported, on_text, performed}
 use Rattle.eval_acts.specs.Inner.{left}
 use Rattle.eval_acts.specs.RootImports.{file_properties, from_file, from_found}
 use Rattle.eval_acts.specs.Stored.{from_stored, is_stored_known, stored_value}
 use Rattle.eval_lookups.specs.LookUpNeeds.{lookup_needs}
-use Rattle.eval_acts.specs.Imports.{builtin_run, from_answer_or_noted, from_cmdline, from_line, from_parent, from_program, line_for, name_given, names_fitting}
+use Rattle.eval_acts.specs.Imports.{builtin_run, from_answer_or_noted, from_cmdline, from_line, from_parent, from_part, from_program, name_given, names_fitting, parent_properties, words_for}
 use Rattle.eval_acts.specs.Imports.{not_run, run_builtin, taken, with_found}
 use Rattle.eval_acts.specs.Printed.{printed_properties}
-use Rattle.eval_acts.specs.Questions.{answered_by_block, answered_or_noted, result_of, tested, tested_at, tested_by, tested_by_udev, with_result}
+use Rattle.eval_acts.specs.Questions.{answered_by_block, answered_or_noted, is_somewhere, result_of, tested, tested_at, tested_by, tested_by_udev, tested_here, with_result}
 use Rattle.eval_acts.specs.Unread.{first_unread, unread_notes}
 use Rattle.eval_laws.specs.Allowances.{act_kind_allowance, entries_weight}
 use Rattle.eval_laws.specs.Inner.{Within, scene_weight}
@@ -72,6 +75,8 @@ use Rattle.eval_laws.proofs.Found.{found_light}
 use Rattle.eval_laws.proofs.PrintedWeights.{answered_weight, answers_light, file_light, printed_light}
 use Rattle.eval_laws.proofs.StoredWeights.{stored_light}
 use Rattle.eval_laws.proofs.CmdlineWeights.{cmdline_light, line_light, line_weight, set_weight}
+use Rattle.eval_laws.proofs.Scenes.{more, noted_within}
+use Rattle.eval_laws.proofs.Starts.{parent_properties_light}
 use Rattle.eval_laws.proofs.Scenes.{more, most_imported, noted_within, second_note, second_room}
 use Rattle.eval_laws.proofs.Starts.{properties_light}
 use Rattle.eval_laws.proofs.FoundWeights.{env_of, found_more, looked_up_light, parent_light, with_maker_light}
@@ -133,8 +138,17 @@ module _ (event : EventValue) where
         by false = notes TestNotMade path
     at_within (Some place) name path = stays
 
+    here_within : (path : Text) → Within event (n + most) (tested_here r path s).0
+    here_within path = by (is_somewhere s.state.event s.state.event.device path) (is_not_read path s.state.event)
+      where
+        by : (found unread : Bool)
+            → Within event (n + most) (if◌then◌else◌ {A = Scene × Bool} found (s, true) (if◌then◌else◌ {A = Scene × Bool} unread (noted r TestNotMade path s, false) (s, false))).0
+        by true unread = stays
+        by false true = notes TestNotMade path
+        by false false = stays
+
     udev_within : (is : Option NamedValue) (path : Text) → Within event (n + most) (tested_by_udev is r path s).0
-    udev_within None path = stays
+    udev_within None path = here_within path
     udev_within (Some is) path = at_within (named_place is s.state.event) is.attribute path
 
     by_within : (profile : Profile) (path : Text) → Within event (n + most) (tested_by profile r path s).0
@@ -170,9 +184,9 @@ module _ (event : EventValue) where
     parent_within : (names : List (List Item)) (parent : Option DeviceValue) → pairs_weight (env_of parent) ≤ most → Within event (n + most) (from_parent names parent s).0
     parent_within names None light = stays
     parent_within names (Some parent) light =
-        let given : List Pair = given_properties s.state.event.profile parent.env in
+        let given : List Pair = parent_properties s.state.event.profile parent in
         let a = filter_light pair_weight (λ property. choice_fits names property.0) given in
-        let b = properties_light s.state.event.profile parent.env in
+        let b = parent_properties_light s.state.event.profile parent in
         more_env Manual (names_fitting names given) (omega (arith, a, b, light))
 
     hwdb_within : (known : Known) (command : Text) (hwdb : Option Hwdb) → entries_weight known.entries + (length r.file + 280) ≤ most → Within event (n + most) (builtin_run known r command (hwdb_asked hwdb) s).0
@@ -279,15 +293,25 @@ module _ (event : EventValue) where
     given_within name None light = stays
     given_within name (Some value) light = more_env Udev ((name, value) ∷ []) (let a = sum_by-cons pair_weight (name, value) [] in omega (arith, a, light))
 
-    line_within : (name : Text) (line : Option Text) → line_weight line ≤ most → Within event (n + most) (from_line r name line s).0
-    line_within name None light = not_run_within import_of.Cmdline
-    line_within name (Some line) light = given_within name (cmdline_value name line) (let a = cmdline_light name line in omega (arith, a, light))
+    part_within : (name : Text) (given : Option Text) → set_weight name given ≤ most → Within event (n + most) (from_part r name given s).0
+    part_within name None light = not_run_within import_of.Cmdline
+    part_within name (Some value) light = given_within name (Some value) light
+
+    words_within : (name : Text) (part : Option Text) → line_weight part ≤ most → Within event (n + most) (from_part r name (option_and_then (cmdline_value name) part) s).0
+    words_within name None light = not_run_within import_of.Cmdline
+    words_within name (Some words) light = part_within name (cmdline_value name words) (let a = cmdline_light name words in omega (arith, a, light))
+
+    line_within : (name : Text) (line part : Option Text) → line_weight line ≤ most → line_weight part ≤ most → Within event (n + most) (from_line r name line part s).0
+    line_within name None part light small = words_within name part small
+    line_within name (Some line) part light small = given_within name (cmdline_value name line) (let a = cmdline_light name line in omega (arith, a, light))
 
     cmdline_within : (name : Text) → event_weight event ≤ most → Within event (n + most) (from_cmdline r name s).0
     cmdline_within name short =
-        let a = line_light event name in
-        let b = ap (λ e. line_weight (line_for name e)) h.same in
-        line_within name (line_for name s.state.event) (omega (arith, a, b, short))
+        let a = line_light event (codes "cmdline") name in
+        let b = ap (λ e. line_weight (words_for (codes "cmdline") name e)) h.same in
+        let c = line_light event (codes "cmdline.part") name in
+        let d = ap (λ e. line_weight (words_for (codes "cmdline.part") name e)) h.same in
+        line_within name (words_for (codes "cmdline") name s.state.event) (words_for (codes "cmdline.part") name s.state.event) (omega (arith, a, b, short)) (omega (arith, c, d, short))
 
     stored_within : (name : Text) → event_weight event ≤ most → Within event (n + most) (from_stored r name s).0
     stored_within name short = by (is_stored_known s.state.event)

@@ -16,7 +16,7 @@ use Rattle.eval_commands.specs.Cmdline.{after_name, cmdline_value, folded, is_al
 use Rattle.eval_commands.specs.Words.{Cut, added, begun, closed, closed_at, emptied, ended, is_quote, quoted, separates, took, took_at, udev_words, unread_command}
 use Rattle.eval_commands.specs.declared.words.Place.{Place}
 use Rattle.eval_commands.specs.declared.words.Place.TheVariants.{Between, InWord, Quoted}
-use Rattle.eval_acts.specs.Imports.{line_for}
+use Rattle.eval_acts.specs.Imports.{words_for}
 use Rattle.eval_laws.specs.DeviceWeights.{event_weight, pair_weight, pairs_weight}
 
 -- ---- words have no more bytes than their text
@@ -187,10 +187,10 @@ constant_light (constant ∷ constants) name = by (same_text name constant.0) (c
     by true rest = let a = sum_by-cons pair_weight constant constants in omega (arith, a)
     by false rest = let a = sum_by-cons pair_weight constant constants in omega (arith, a, rest)
 
-pub line_light : (event : EventValue) (name : Text) → line_weight (line_for name event) ≤ event_weight event
+pub line_light : (event : EventValue) (constant name : Text) → line_weight (words_for constant name event) ≤ event_weight event
 unfolding event_weight
-line_light event name = by (is_empty name)
+line_light event constant name = by (is_empty name)
   where
-    by : (b : Bool) → line_weight (if b then None else value_of event.constants (codes "cmdline")) ≤ event_weight event
+    by : (b : Bool) → line_weight (if b then None else value_of event.constants constant) ≤ event_weight event
     by true = omega arith
-    by false = let a = constant_light event.constants (codes "cmdline") in omega (arith, a)
+    by false = let a = constant_light event.constants constant in omega (arith, a)

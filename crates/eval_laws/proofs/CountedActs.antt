@@ -1,5 +1,6 @@
 -- How much an act of a rule adds to what is counted.
 use Rattle.std.proofs.Common.{ℕ, ◌+◌, ◌≤◌, nat_le, Bool, true, false, ◌==◌, List, [], ◌∷◌, ◌++◌, length, Option, Some, None, is_some, ◌||◌, codes, if◌then◌else◌, arith}
+use Rattle.std.specs.Option.{option_and_then}
 use Rattle.std.proofs.lemmas.List.Sums.{sum_by-append}
 use Rattle.text_bytes.specs.Names.{slash}
 use Rattle.text_bytes.specs.Texts.{begins_with}
@@ -39,6 +40,7 @@ use Rattle.eval_state.specs.declared.notes.Note.{Note}
 use Rattle.eval_state.specs.declared.note_kind.NoteKind.{NoteKind}
 use Rattle.eval_state.specs.declared.note_kind.NoteKind.TheVariants.{AttributeNotRead, BadHwdbArguments, BuiltinNeeds, BuiltinNotRun, ImportNotRun, NoAnswer, TestNotMade, TextTooLong}
 use Rattle.eval_state.specs.declared.scene.Scene.{Scene}
+use Rattle.eval_matching.specs.Attributes.{is_not_read}
 use Rattle.rule_types.specs.Builtins.{builtin_name}
 use Rattle.rule_types.specs.declared.builtins.Builtin.TheVariants.{InputId, NetId, NetSetupLink, PathId, UsbId}
 use Rattle.builtin_devices.specs.Outcomes.{OutcomeValue}
@@ -52,11 +54,11 @@ use Rattle.eval_acts.specs.Acts.{act_step, command_reached, from_parent_by, impo
 use Rattle.eval_acts.specs.Inner.{left}
 use Rattle.eval_acts.specs.RootImports.{file_properties, from_file, from_found}
 use Rattle.eval_acts.specs.Stored.{from_stored, is_stored_known, stored_value}
-use Rattle.eval_acts.specs.Imports.{builtin_run, from_answer_or_noted, from_line, from_parent, from_program, line_for, name_given, not_run, run_builtin, taken}
+use Rattle.eval_acts.specs.Imports.{builtin_run, from_answer_or_noted, from_line, from_parent, from_part, from_program, name_given, not_run, run_builtin, taken, words_for}
 use Rattle.eval_lookups.specs.LookUpNeeds.{lookup_needs}
 use Rattle.eval_lookups.specs.LookUps.{found}
 use Rattle.eval_acts.specs.Printed.{printed_properties}
-use Rattle.eval_acts.specs.Questions.{answered_by_block, answered_or_noted, result_of, tested, tested_at, tested_by, tested_by_udev, with_result}
+use Rattle.eval_acts.specs.Questions.{answered_by_block, answered_or_noted, is_somewhere, result_of, tested, tested_at, tested_by, tested_by_udev, tested_here, with_result}
 use Rattle.eval_acts.specs.Unread.{first_unread, unread_notes}
 use Rattle.eval_laws.proofs.Measured.{act_most, measured, noted_more}
 
@@ -105,8 +107,17 @@ module _ (w : Note → ℕ) (v : RunValue → ℕ) (c : Rule → ℕ) (light : (
         by false = notes TestNotMade path
     test_at_counts (Some place) name path = omega arith
 
+    test_here_counts : (path : Text) → counted (tested_here r path s).0 ≤ counted s + c r
+    test_here_counts path = by (is_somewhere s.state.event s.state.event.device path) (is_not_read path s.state.event)
+      where
+        by : (found unread : Bool)
+            → counted (if◌then◌else◌ {A = Scene × Bool} found (s, true) (if◌then◌else◌ {A = Scene × Bool} unread (noted r TestNotMade path s, false) (s, false))).0 ≤ counted s + c r
+        by true unread = omega arith
+        by false true = notes TestNotMade path
+        by false false = omega arith
+
     test_udev_counts : (is : Option NamedValue) (path : Text) → counted (tested_by_udev is r path s).0 ≤ counted s + c r
-    test_udev_counts None path = omega arith
+    test_udev_counts None path = test_here_counts path
     test_udev_counts (Some is) path = test_at_counts (named_place is s.state.event) is.attribute path
 
     test_by_counts : (profile : Profile) (path : Text) → counted (tested_by profile r path s).0 ≤ counted s + c r
@@ -173,9 +184,13 @@ module _ (w : Note → ℕ) (v : RunValue → ℕ) (c : Rule → ℕ) (light : (
     given_counts name None = omega arith
     given_counts name (Some value) = omega arith
 
-    line_counts : (name : Text) (line : Option Text) → counted (from_line r name line s).0 ≤ counted s + c r
-    line_counts name None = not_run_counts import_of.Cmdline
-    line_counts name (Some line) = given_counts name (cmdline_value name line)
+    part_counts : (name : Text) (given : Option Text) → counted (from_part r name given s).0 ≤ counted s + c r
+    part_counts name None = not_run_counts import_of.Cmdline
+    part_counts name (Some value) = given_counts name (Some value)
+
+    line_counts : (name : Text) (line part : Option Text) → counted (from_line r name line part s).0 ≤ counted s + c r
+    line_counts name None part = part_counts name (option_and_then (cmdline_value name) part)
+    line_counts name (Some line) part = given_counts name (cmdline_value name line)
 
     stored_counts : (name : Text) → counted (from_stored r name s).0 ≤ counted s + c r
     stored_counts name = by (is_stored_known s.state.event)
@@ -199,7 +214,7 @@ module _ (w : Note → ℕ) (v : RunValue → ℕ) (c : Rule → ℕ) (light : (
     import_counts Manual d known (import.File template) = not_run_counts import_of.File
     import_counts Udev d known (import.File template) = on_text_counts d (from_file known r) (import_text most_path_bytes template s.state) (λ path. found_counts (known.file path))
     import_counts Manual d known (import.Cmdline name) = not_run_counts import_of.Cmdline
-    import_counts Udev d known (import.Cmdline name) = line_counts name (line_for name s.state.event)
+    import_counts Udev d known (import.Cmdline name) = line_counts name (words_for (codes "cmdline") name s.state.event) (words_for (codes "cmdline.part") name s.state.event)
     import_counts Manual d known (import.Db name) = not_run_counts import_of.Db
     import_counts Udev d known (import.Db name) = stored_counts name
 

@@ -16,7 +16,6 @@ use Rattle.rule_types.specs.declared.part.ActKind.TheVariants as act_kind
 use Rattle.rule_types.specs.declared.part.Import.TheVariants as import
 use Rattle.rule_types.specs.declared.roles.MatchOperator.TheVariants.{Equal}
 use Rattle.rule_types.specs.Rules.{Rule}
-use Rattle.eval_state.specs.Properties.{given_properties}
 use Rattle.eval_state.specs.Chains.{device_at}
 use Rattle.eval_state.specs.Scenes.{noted, with_env}
 use Rattle.eval_state.specs.declared.note_kind.NoteKind.TheVariants.{TestNotMade}
@@ -34,7 +33,7 @@ use Rattle.eval_acts.specs.ActTexts.{path_by, within_by}
 use Rattle.eval_acts.specs.Acts as acts
 use Rattle.eval_acts.specs.Acts.{act_step, command_reached, imported, on_text, proceeds, too_long_noted}
 use Rattle.eval_acts.specs.BuiltinRuns.{needs_noted}
-use Rattle.eval_acts.specs.Imports.{builtin_run, from_parent, run_builtin, with_found}
+use Rattle.eval_acts.specs.Imports.{builtin_run, from_parent, parent_properties, run_builtin, with_found}
 use Rattle.eval_lookups.specs.LookUpNeeds.{lookup_needs}
 use Rattle.eval_lookups.specs.LookUps.{found}
 use Rattle.eval_acts.specs.Questions.{tested, tested_by}
@@ -72,7 +71,7 @@ module _ (known : Known) (r : Rule) (s : Scene) (manual : s.state.event.profile 
         → act_step known r (parent_import names written) s ≡ (with_env (with_values s.state.env (filter (λ (property : Pair). choice_fits names property.0) parent.env)) s, true)
     parent_there parent e =
         parent_is ∙ ap (λ (d : Option DeviceValue). after (act_kind.Import (import.Parent names written)) (acts.tried (from_parent names d s))) e
-        ∙ ap (λ (p : Profile). (with_env (with_values s.state.env (filter (λ (property : Pair). choice_fits names property.0) (given_properties p parent.env))) s, true)) manual
+        ∙ ap (λ (p : Profile). (with_env (with_values s.state.env (filter (λ (property : Pair). choice_fits names property.0) (parent_properties p parent))) s, true)) manual
 
     pub parent_absent : device_at s.state.event 1 ≡ None → act_step known r (parent_import names written) s ≡ (s, false)
     parent_absent e = parent_is ∙ ap (λ (d : Option DeviceValue). after (act_kind.Import (import.Parent names written)) (acts.tried (from_parent names d s))) e

@@ -1,5 +1,6 @@
 -- Keys that are final stay, through any further rules.
 use Rattle.std.proofs.Common.{◌≡◌, ℕ, Bool, true, false, cond, ◌||◌, is_some, List, [], ◌∷◌, length, Option, Some, None, refl, ap, ◌∙◌, codes, nat_le}
+use Rattle.std.specs.Option.{option_and_then}
 use Rattle.std.specs.List.{fold}
 use Rattle.text_bytes.specs.Names.{slash}
 use Rattle.text_bytes.specs.Texts.{begins_with}
@@ -34,7 +35,7 @@ use Rattle.eval_state.specs.Named.{NamedValue, named, named_place}
 use Rattle.eval_state.specs.Properties.{properties_set}
 use Rattle.eval_state.specs.Scenes.{noted, with_env}
 use Rattle.eval_state.specs.declared.note_kind.NoteKind.{NoteKind}
-use Rattle.eval_state.specs.declared.note_kind.NoteKind.TheVariants.{AttributeNotRead, BuiltinNotRun, ConstantNotGiven, ImportNotRun, NoAnswer, TestNotMade, TextTooLong}
+use Rattle.eval_state.specs.declared.note_kind.NoteKind.TheVariants.{AttributeNotRead, BuiltinNotRun, ConstantNotGiven, ImportNotRun, NoAnswer, TestNotMade, TextTooLong, AttributeGone}
 use Rattle.eval_rendering.specs.Bounds.{most_command_bytes, most_path_bytes}
 use Rattle.eval_rendering.specs.declared.rendered.Rendered.{Rendered}
 use Rattle.eval_rendering.specs.declared.rendered.Rendered.TheVariants as rendered
@@ -56,12 +57,12 @@ use Rattle.eval_acts.specs.Acts.{act_step, command_reached, from_parent_by, impo
 use Rattle.eval_acts.specs.BuiltinRuns.{looked_up, most_set, needs_noted, outcome_set, outcome_taken, path_id_run, properties_size, usb_id_run, with_maker}
 use Rattle.eval_acts.specs.RootImports.{file_properties, from_file, from_found}
 use Rattle.eval_acts.specs.Stored.{from_stored, is_stored_known, stored_value}
-use Rattle.eval_acts.specs.Imports.{builtin_run, from_answer_or_noted, from_line, from_parent, from_program, line_for, name_given, not_run, run_builtin, taken}
+use Rattle.eval_acts.specs.Imports.{builtin_run, from_answer_or_noted, from_line, from_parent, from_part, from_program, name_given, not_run, run_builtin, taken, words_for}
 use Rattle.eval_lookups.specs.LookUpNeeds.{lookup_needs}
 use Rattle.eval_lookups.specs.LookUps.{found}
 use Rattle.eval_acts.specs.Printed.{printed_properties}
-use Rattle.eval_acts.specs.Questions.{answered_by_block, answered_or_noted, result_of, tested, tested_at, tested_by, tested_by_udev, with_result}
-use Rattle.eval_acts.specs.Reaching.{match_reached}
+use Rattle.eval_acts.specs.Questions.{answered_by_block, answered_or_noted, is_somewhere, result_of, tested, tested_at, tested_by, tested_by_udev, tested_here, with_result}
+use Rattle.eval_acts.specs.Reaching.{is_gone_by, match_reached}
 use Rattle.eval_laws.specs.AssignmentLaws.{Keeps, SameAt}
 use Rattle.eval_assignments.specs.Steps.{set_step}
 use Rattle.eval_laws.proofs.KeptParts.{value, itself, same_notes}
@@ -108,8 +109,16 @@ test_at_same : (place : Option ℕ) (r : Rule) (name t : Text) (s : Scene) → S
 test_at_same None r name t s = chosen s s (noted r TestNotMade t s) true false (is_there s.state.event (place_of s.state.event.device t)) refl refl
 test_at_same (Some place) r name t s = refl
 
+test_here_same : (r : Rule) (t : Text) (s : Scene) → Same s (tested_here r t s).0
+test_here_same r t s = by (is_somewhere s.state.event s.state.event.device t) (is_not_read t s.state.event)
+  where
+    by : (found unread : Bool) → Same s (cond {A = Scene × Bool} found (s, true) (cond {A = Scene × Bool} unread (noted r TestNotMade t s, false) (s, false))).0
+    by true unread = refl
+    by false true = refl
+    by false false = refl
+
 test_udev_same : (is : Option NamedValue) (r : Rule) (t : Text) (s : Scene) → Same s (tested_by_udev is r t s).0
-test_udev_same None r t s = refl
+test_udev_same None r t s = test_here_same r t s
 test_udev_same (Some is) r t s = test_at_same (named_place is s.state.event) r is.attribute t s
 
 test_by_same : (profile : Profile) (r : Rule) (t : Text) (s : Scene) → Same s (tested_by profile r t s).0
@@ -181,9 +190,13 @@ given_same : (name : Text) (given : Option Text) (s : Scene) → Same s (name_gi
 given_same name None s = refl
 given_same name (Some text) s = refl
 
-line_same : (r : Rule) (name : Text) (line : Option Text) (s : Scene) → Same s (from_line r name line s).0
-line_same r name None s = refl
-line_same r name (Some line) s = given_same name (cmdline_value name line) s
+part_same : (r : Rule) (name : Text) (given : Option Text) (s : Scene) → Same s (from_part r name given s).0
+part_same r name None s = refl
+part_same r name (Some value) s = given_same name (Some value) s
+
+line_same : (r : Rule) (name : Text) (line part : Option Text) (s : Scene) → Same s (from_line r name line part s).0
+line_same r name None part s = part_same r name (option_and_then (cmdline_value name) part) s
+line_same r name (Some line) part s = given_same name (cmdline_value name line) s
 
 stored_same : (r : Rule) (name : Text) (s : Scene) → Same s (from_stored r name s).0
 stored_same r name s = by (is_stored_known s.state.event)
@@ -213,7 +226,7 @@ imported_same Udev known r (import.Program t) s =
 imported_same Manual known r (import.File t) s = refl
 imported_same Udev known r (import.File t) s = on_text_same (from_file known r) (λ path u. found_same r (known.file path) u) (import_text most_path_bytes t s.state) s
 imported_same Manual known r (import.Cmdline name) s = refl
-imported_same Udev known r (import.Cmdline name) s = line_same r name (line_for name s.state.event) s
+imported_same Udev known r (import.Cmdline name) s = line_same r name (words_for (codes "cmdline") name s.state.event) (words_for (codes "cmdline.part") name s.state.event) s
 imported_same Manual known r (import.Db name) s = refl
 imported_same Udev known r (import.Db name) s = stored_same r name s
 
@@ -247,11 +260,12 @@ act_same known r act s = late_same r act.kind (performed known r act.kind s).1 s
 
 reached_same : (r : Rule) (k : PlainKey) (s : Scene) → Same s (match_reached r k s)
 reached_same r (plain.Sysctl name) s = refl
-reached_same r (plain.Attr name) s = by (is_not_read name s.state.event)
+reached_same r (plain.Attr name) s = by (is_not_read name s.state.event) (is_gone_by s.state.event.profile name s.state.event)
   where
-    by : (b : Bool) → Same s (cond b (noted r AttributeNotRead name s) s)
-    by true = refl
-    by false = refl
+    by : (b c : Bool) → Same s (cond b (noted r AttributeNotRead name s) (cond c (noted r AttributeGone name s) s))
+    by true c = refl
+    by false true = refl
+    by false false = refl
 reached_same r (plain.Const name) s = by (is_not_given name s.state.event)
   where
     by : (b : Bool) → Same s (cond b (noted r ConstantNotGiven name s) s)

@@ -1,14 +1,15 @@
 -- What an event weighs before any rule has run.
-use Rattle.std.proofs.Common.{◌≡◌, ◌+◌, ◌≤◌, not, List, [], ◌∷◌, ◌++◌, length, Option, Some, None, option_map, codes, refl, arith}
+use Rattle.std.proofs.Common.{◌≡◌, ◌+◌, ◌≤◌, Bool, true, false, cond, not, is_some, List, [], ◌∷◌, ◌++◌, length, Option, Some, None, option_map, codes, refl, arith}
 use Rattle.std.proofs.lemmas.List.Sums.{sum_by-cons, sum_by-append}
 use Rattle.text_bytes.specs.Texts.{is_empty}
 use Rattle.text_bytes.specs.declared.profile.Profile.{Profile}
 use Rattle.text_bytes.specs.declared.profile.Profile.TheVariants.{Manual, Udev}
 use Rattle.text_bytes.specs.Text.{Text}
 use Rattle.text_tables.specs.Pairs.{Pair, with_values}
-use Rattle.device_core.specs.Values.{EventValue, NumberValue}
+use Rattle.device_core.specs.Values.{DeviceValue, EventValue, NumberValue}
 use Rattle.eval_laws.specs.DeviceWeights.{device_weight, event_weight, given_weight, number_weight, pair_weight, pairs_weight, text_weight}
 use Rattle.eval_state.specs.Properties.{given_properties}
+use Rattle.eval_acts.specs.Imports.{parent_properties}
 use Rattle.eval_state.specs.Start.{node_path, pair_if, reported_by, start_env}
 use Rattle.eval_state.specs.Scenes.{start}
 use Rattle.eval_laws.specs.Inner.{Within, scene_weight}
@@ -66,6 +67,15 @@ event_reported event =
 pub properties_light : (profile : Profile) (env : List Pair) → pairs_weight (given_properties profile env) ≤ pairs_weight env
 properties_light Manual env = omega arith
 properties_light Udev env = filter_light pair_weight (λ property. not (is_empty property.1)) env
+
+-- and so are those that an import takes of a device above
+pub parent_properties_light : (profile : Profile) (parent : DeviceValue) → pairs_weight (parent_properties profile parent) ≤ pairs_weight parent.env
+parent_properties_light Manual parent = omega arith
+parent_properties_light Udev parent = by (is_some parent.subsystem)
+  where
+    by : (b : Bool) → pairs_weight (cond b (given_properties Udev parent.env) []) ≤ pairs_weight parent.env
+    by true = properties_light Udev parent.env
+    by false = omega arith
 
 env_light : (event : EventValue) → pairs_weight (start_env event) ≤ pairs_weight event.device.env + pairs_weight (reported_by event)
 unfolding start_env

@@ -1,11 +1,13 @@
 -- How many the notes are that assignments leave on attributes that are not read, and what they weigh.
-use Rattle.std.proofs.Common.{◌≡◌, ℕ, ◌+◌, ◌≤◌, Bool, true, false, cond, List, [], ◌∷◌, ◌++◌, length, Option, Some, None, refl, arith}
+use Rattle.std.proofs.Common.{◌≡◌, ℕ, ◌+◌, ◌≤◌, Bool, true, false, cond, List, [], ◌∷◌, ◌++◌, length, Option, Some, None, is_some, option_map, codes, refl, arith}
+use Rattle.std.specs.Option.{option_and_then, option_or}
 use Rattle.std.proofs.lemmas.List.{length-append}
 use Rattle.std.proofs.lemmas.List.Sums.{sum_by-append, sum_by-cons}
 use Rattle.std.specs.List.{sum_by}
 use Rattle.text_bytes.specs.declared.profile.Profile.{Profile}
 use Rattle.text_bytes.specs.declared.profile.Profile.TheVariants.{Manual, Udev}
 use Rattle.text_bytes.specs.Text.{Text}
+use Rattle.text_tables.specs.Pairs.{value_of}
 use Rattle.rule_types.specs.declared.part.Assignment.{Assignment}
 use Rattle.rule_types.specs.Rules.{Rule}
 use Rattle.device_core.specs.Values.{EventValue}
@@ -17,14 +19,17 @@ use Rattle.eval_state.specs.declared.note_kind.NoteKind.TheVariants.{AttributeNo
 use Rattle.eval_state.specs.declared.notes.Note.{Note}
 use Rattle.eval_state.specs.declared.scene.Scene.{Scene}
 use Rattle.eval_acts.specs.Unread.{unread_notes}
+use Rattle.eval_assignments.specs.Modes.{four_digits}
 use Rattle.eval_assignments.specs.Steps.{set_step}
 use Rattle.eval_rules.specs.Idle.{is_idle}
 use Rattle.eval_rules.specs.Jumps.{is_passed, sought_after}
 use Rattle.eval_rules.specs.Outcomes.{outcome}
 use Rattle.eval_rules.specs.Steps.{Went, apply, before_sets}
 use Rattle.eval_rules.specs.declared.outcome.Outcome.{Outcome}
+use Rattle.eval_unread.specs.KernelModes.{kernel_mode, with_kernel_mode, written_mode}
 use Rattle.eval_unread.specs.Unread.{rule_unread, rules_unread, unread, unread_after, unread_by, unread_from, unread_of, whole_outcome, with_notes}
 use Rattle.eval_laws.specs.Counts.{most_notes, most_told}
+use Rattle.eval_laws.specs.DeviceWeights.{given_weight}
 use Rattle.eval_laws.specs.Weights.{note_weight, outcome_weight}
 use Rattle.eval_laws.proofs.Counted.{notes_counted}
 
@@ -90,6 +95,28 @@ module _ (w : Note → ℕ) (c : Rule → ℕ) (light : (r : Rule) (kind : NoteK
 pub more_weigh : (more : List Note) (o : Outcome) → outcome_weight (with_notes more o) ≡ outcome_weight o + sum_by note_weight more
 unfolding outcome_weight
 more_weigh more o = let a = sum_by-append note_weight o.notes more in omega (arith, a)
+
+-- what the kernel's mode weighs, if there is one
+either_weighs : (given other : Option Text) → given_weight (option_or given other) ≤ given_weight given + given_weight other
+either_weighs None other = omega arith
+either_weighs (Some text) other = omega arith
+
+digits_weigh : (mode : Option ℕ) → given_weight (option_map four_digits mode) ≤ 5
+digits_weigh None = omega arith
+digits_weigh (Some mode) = omega arith
+
+kernel_weighs : (profile : Profile) (event : EventValue) → given_weight (kernel_mode profile event) ≤ 5
+kernel_weighs Manual event = omega arith
+kernel_weighs Udev event = by (is_some event.device.number)
+  where
+    by : (b : Bool) → given_weight (cond b (option_map four_digits (option_and_then written_mode (value_of event.device.env (codes "DEVMODE")))) None) ≤ 5
+    by true = digits_weigh (option_and_then written_mode (value_of event.device.env (codes "DEVMODE")))
+    by false = omega arith
+
+-- what an outcome weighs with it
+pub mode_weighs : (event : EventValue) (o : Outcome) → outcome_weight (with_kernel_mode event o) ≤ outcome_weight o + 5
+unfolding outcome_weight
+mode_weighs event o = let a = either_weighs o.mode (kernel_mode event.profile event) in let b = kernel_weighs event.profile event in omega (arith, a, b)
 
 -- ---- how many there are
 

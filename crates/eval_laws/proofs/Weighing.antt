@@ -14,14 +14,14 @@ use Rattle.eval_laws.proofs.DeviceWeights.{event_within}
 use Rattle.eval_state.specs.Scenes.{start}
 use Rattle.eval_rules.specs.Jumps.{run}
 use Rattle.eval_rules.specs.Outcomes.{outcome}
-use Rattle.eval_unread.specs.Unread.{unread, unread_by, whole_outcome}
+use Rattle.eval_unread.specs.Unread.{unread, unread_by, whole_outcome, with_notes}
 use Rattle.eval_laws.specs.Weights.{note_weight, outcome_weight}
 use Rattle.eval_laws.specs.Allowances.{most_weight, notes_allowance, rules_allowance}
 use Rattle.eval_laws.proofs.Starts.{start_within}
 use Rattle.eval_laws.proofs.Ruled.{run_within}
 use Rattle.eval_laws.proofs.Ends.{outcome_light}
 use Rattle.eval_laws.proofs.Scenes.{note_light}
-use Rattle.eval_laws.proofs.UnreadWeights.{more_weigh, rules_light}
+use Rattle.eval_laws.proofs.UnreadWeights.{mode_weighs, more_weigh, rules_light}
 
 answer_within : (len : ℕ) (rules : List Rule) (known : Known) (event : EventValue) → event_weight event ≤ len → outcome_weight (outcome rules known event) ≤ 4 * len + 128 + rules_allowance event.profile len known.entries rules
 answer_within len rules known event short =
@@ -65,4 +65,5 @@ block_answer profile rules known block event given =
     let own = answer_within (length block) rules known (by_profile profile event) (omega (arith, a, b)) in
     let notes = notes_within profile rules known (by_profile profile event) in
     let whole = more_weigh (unread rules known (by_profile profile event)) (outcome rules known (by_profile profile event)) in
-    omega (arith, own, notes, whole)
+    let mode = mode_weighs (by_profile profile event) (with_notes (unread rules known (by_profile profile event)) (outcome rules known (by_profile profile event))) in
+    omega (arith, own, notes, whole, mode)

@@ -94,6 +94,6 @@ abbrev pub notes_allowance : Profile → List Rule → ℕ
 notes_allowance Manual rules = 0
 notes_allowance Udev rules = sum_by unread_allowance rules
 
--- the most that an answer weighs: what the event brings, and what the rules may add
+-- the most that an answer weighs: what the event brings, with the kernel's mode, and what the rules may add
 abbrev pub most_weight : Profile → ℕ → List Entry → List Rule → ℕ
-most_weight profile len entries rules = 4 * len + 128 + rules_allowance profile len entries rules + notes_allowance profile rules
+most_weight profile len entries rules = 4 * len + 133 + rules_allowance profile len entries rules + notes_allowance profile rules

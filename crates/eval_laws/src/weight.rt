@@ -21,7 +21,7 @@ ghost use Rattle.eval_laws.specs.Allowances.{act_kind_allowance, entries_weight,
 ghost use Rattle.eval_laws.specs.Counts.{most_notes, most_told};
 ghost use Rattle.eval_laws.specs.Weights.{outcome_weight};
 
-/// The texts in the whole outcome of an event, each with one more, are together at most four times its block and 128, and
+/// The texts in the whole outcome of an event, each with one more, are together at most four times its block and 133, and
 /// for each part of a rule 32,896, the length of its attribute and that of its file's name, and in addition for each
 /// IMPORT twice the block and all keys and values of the database, each with one more. For udev the outcome may have
 /// more: the text of each SECLABEL as it is written, the block for each ATTR, 65,536 and the length of its file's name

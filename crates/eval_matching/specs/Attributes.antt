@@ -15,7 +15,7 @@ use Rattle.eval_state.specs.Texts.{or_empty}
 use Rattle.eval_state.specs.declared.state.State.{State}
 use Rattle.eval_rendering.specs.Bounds.{short}
 use Rattle.eval_rendering.specs.Names.{name_text}
-use Rattle.eval_rendering.specs.Paths.{is_path_unread, read_value}
+use Rattle.eval_rendering.specs.Paths.{is_unread, read_value}
 use Rattle.eval_rendering.specs.Pieces.{as_read}
 use Rattle.eval_matching.specs.Holding.{Subject, attribute, udev_attribute, udev_unread}
 use Rattle.eval_matching.specs.Udev.{capped}
@@ -60,10 +60,19 @@ written_value event name = value_of event.device.attrs name
 abbrev pub is_unknown : Text → EventValue → Bool
 is_unknown name event = begins_with open_bracket name && (is_elsewhere event (named name) && is_none (written_value event name))
 
+-- whether there is a device, and the block does not tell what a name stands for there
+abbrev pub is_unread_at : Text → EventValue → Option DeviceValue → Bool
+is_unread_at name event None = false
+is_unread_at name event (Some device) = is_unread event device name
+
+-- the same of a name that names no device
+abbrev pub is_untold_at : Text → EventValue → Option DeviceValue → Bool
+is_untold_at name event device = not (begins_with open_bracket name) && is_unread_at name event device
+
 -- whether an attribute that a match asks for is not read; the manual knows no such names
 abbrev pub is_not_read_by : Profile → Text → EventValue → Bool
 is_not_read_by profile.Manual name event = false
-is_not_read_by profile.Udev name event = is_unknown name event || is_path_unread name event
+is_not_read_by profile.Udev name event = is_unknown name event || is_untold_at name event (Some event.device)
 
 -- whether an attribute that a match asks for is not read
 unfoldable pub is_not_read : Text → EventValue → Bool
@@ -84,11 +93,16 @@ named_value event given (Some n) = if is_empty n.attribute then None else found_
 abbrev pub sought : Text → EventValue → Option Text → Option Text
 sought name event own = if begins_with open_bracket name then named_value event (written_value event name) (named name) else own
 
--- what udev compares of an attribute
-unfoldable pub udev_subject : Text → EventValue → Option Text → Subject
-udev_subject name event own = if is_unknown name event then udev_unread else udev_attribute (sought name event own)
+-- what udev compares of an attribute that a device may have: of one that it does not have, by whether the block tells that
+abbrev pub told_subject : (untold : Bool) → Option Text → Subject
+told_subject untold value = if untold && is_none value then udev_unread else udev_attribute value
 
--- what a match of an attribute looks at, by the attribute that the device itself has
-abbrev pub attribute_by : Profile → Text → EventValue → Option Text → Subject
-attribute_by profile.Manual name event own = attribute own
-attribute_by profile.Udev name event own = udev_subject name event own
+-- what udev compares of an attribute of a device
+unfoldable pub udev_subject : Text → EventValue → Option DeviceValue → Option Text → Subject
+udev_subject name event device own =
+    if is_unknown name event then udev_unread else told_subject (is_untold_at name event device) (sought name event own)
+
+-- what a match of an attribute looks at, by the device and by the attribute that this itself has
+abbrev pub attribute_by : Profile → Text → EventValue → Option DeviceValue → Option Text → Subject
+attribute_by profile.Manual name event device own = attribute own
+attribute_by profile.Udev name event device own = udev_subject name event device own

@@ -57,7 +57,8 @@ plain_subject plain.Driver state = one (or_empty state.event.device.driver)
 plain_subject plain.Name state = one (or_empty state.name)
 plain_subject plain.Symlink state = members_by state.event.profile state.links
 plain_subject plain.Tag state = members_by state.event.profile state.tags
-plain_subject (plain.Attr name) state = attribute_by state.event.profile name state.event (value_by state.event.profile name state state.event.device)
+plain_subject (plain.Attr name) state =
+    attribute_by state.event.profile name state.event (Some state.event.device) (value_by state.event.profile name state state.event.device)
 plain_subject (plain.Sysctl name) state = unread
 plain_subject (plain.Env name) state = one (or_empty (value_of state.env name))
 plain_subject (plain.Const name) state = named_constant name state
@@ -77,7 +78,8 @@ up_subject up.Kernels state place = one (or_empty (option_map kernel_of (device_
 up_subject up.Subsystems state place = one (or_empty (option_and_then (λ device. device.subsystem) (device_at state.event place)))
 up_subject up.Drivers state place = one (or_empty (option_and_then (λ device. device.driver) (device_at state.event place)))
 up_subject up.Tags state place = members_by state.event.profile (tags_at state place)
-up_subject (up.Attrs name) state place = attribute_by state.event.profile name state.event (own_attribute name (tried state place) place)
+up_subject (up.Attrs name) state place =
+    attribute_by state.event.profile name state.event (device_at state.event place) (own_attribute name (tried state place) place)
 
 -- whether a match of one device holds at a place of the chain
 unfoldable pub holds_at : State → ℕ → UpMatch → Bool

@@ -1,12 +1,12 @@
 //! Which attribute a match of ATTR or ATTRS looks at.
-ghost use Rattle.std.specs.Prelude.{◌≡◌, option_map};
+ghost use Rattle.std.specs.Prelude.{◌≡◌, Some, option_copied, option_map};
 ghost use Rattle.std.specs.Option.{option_and_then};
 ghost use Rattle.rule_types.specs.declared.roles.PlainKey.TheVariants as plain;
 ghost use Rattle.rule_types.specs.declared.roles.UpKey.TheVariants as up;
 ghost use Rattle.eval_state.specs.Named.{named, named_place};
 ghost use Rattle.eval_state.specs.Texts.{or_empty};
-ghost use Rattle.eval_matching.specs.Attributes.{attribute_by, attribute_of, found_value, is_elsewhere, is_not_read, is_rendered, is_unknown};
-ghost use Rattle.eval_matching.specs.Attributes.{named_value, own_attribute, sought, udev_found, udev_subject, udev_value, value_by, written_value};
+ghost use Rattle.eval_matching.specs.Attributes.{attribute_by, attribute_of, found_value, is_elsewhere, is_not_read, is_rendered, is_unknown, is_unread_at, is_untold_at};
+ghost use Rattle.eval_matching.specs.Attributes.{named_value, own_attribute, sought, told_subject, udev_found, udev_subject, udev_value, value_by, written_value};
 ghost use Rattle.eval_matching.specs.Holding.{holds};
 ghost use Rattle.eval_matching.specs.Borrowed.{borrowed_subject};
 ghost use Rattle.eval_matching.specs.Subjects.{plain_subject, up_subject};
@@ -20,7 +20,7 @@ ghost use Rattle.eval_rendering.specs.Pieces.{as_read};
 use crate::holding::attribute_holds;
 use crate::udev;
 use device_core::Device;
-use eval_rendering::{as_read, is_path_unread, read_value, rendered_name};
+use eval_rendering::{as_read, is_unread, read_value, rendered_name};
 use eval_state::{Chain, Named, State};
 use rule_templates::has_sign;
 use rule_types::Comparison;
@@ -77,17 +77,37 @@ fn is_unknown(name: &[u8], chain: &Chain<'_>) -> bool
         && written_value(chain, name).is_none()
 }
 
+/// Whether there is a device, and the block does not tell what a name stands for there.
+fn is_unread_at<'a>(name: &[u8], chain: &Chain<'a>, device: Option<&'a Device<'a>>) -> bool
+    ensures { result ≡ is_unread_at name.now chain.now (option_copied device.entry) }
+{
+    match device {
+        Some(device) => is_unread(chain, device, name),
+        None => false,
+    }
+}
+
+/// The same of a name that names no device.
+fn is_untold_at<'a>(name: &[u8], chain: &Chain<'a>, device: Option<&'a Device<'a>>) -> bool
+    ensures { result ≡ is_untold_at name.now chain.now (option_copied device.entry) }
+{
+    !begins_with(b'[', name) && is_unread_at(name, chain, device)
+}
+
 /// Whether a match of ATTR or ATTRS asks for an attribute that udev of systemd 257 would read, and that is not read
 /// here: one of a device that is not in the chain, named `[SUBSYSTEM/KERNEL]ATTRIBUTE`, unless the event device has it
-/// under this whole name; or a path that begins with `../` or `./` and leads to what the block does not have and does
-/// not deny. Never by the manual, which knows no such names.
+/// under this whole name; or another of which the block tells nothing: a path that begins with `../` or `./` and leads to what the
+/// block does not have and does not deny, a file that has no value of one line, and what lies in a folder of which the block shows
+/// nothing. Never by the manual, which knows no such names.
 #[tactic(auto, unfolding(crate::specs::Attributes::is_not_read))]
 pub fn is_not_read(name: &[u8], chain: &Chain<'_>) -> bool
     ensures { result ≡ is_not_read name.now chain.now }
 {
     match chain.event().profile() {
         Profile::Manual => false,
-        Profile::Udev => is_unknown(name, chain) || is_path_unread(name, chain),
+        Profile::Udev => {
+            is_unknown(name, chain) || is_untold_at(name, chain, Some(chain.device()))
+        }
     }
 }
 
@@ -233,6 +253,23 @@ fn sought<'a>(
     }
 }
 
+/// What udev compares of an attribute that the device at a place of the chain may have.
+fn told_attribute<'a>(
+    state: &State<'a>,
+    place: usize,
+    name: &[u8],
+    value: Option<&'a [u8]>,
+) -> Attribute<'a>
+    ensures { borrowed_subject result
+        ≡ told_subject (is_untold_at name.now state.now.event (device_at state.now.event place)) (option_map (λ t. t.now) value.entry) }
+{
+    if value.is_none() && is_untold_at(name, &state.event, state.event.device_at(place)) {
+        Attribute::NotRead
+    } else {
+        Attribute::Udev(value)
+    }
+}
+
 /// What udev compares of an attribute.
 #[tactic(auto, unfolding(crate::specs::Attributes::udev_subject))]
 fn udev_attribute<'a>(
@@ -241,12 +278,13 @@ fn udev_attribute<'a>(
     place: usize,
     name: &[u8],
 ) -> Attribute<'a>
-    ensures { borrowed_subject result ≡ udev_subject name.now state.now.event (own_attribute name.now (record state.now { selected = selected }) place) }
+    ensures { borrowed_subject result
+        ≡ udev_subject name.now state.now.event (device_at state.now.event place) (own_attribute name.now (record state.now { selected = selected }) place) }
 {
     if is_unknown(name, &state.event) {
         Attribute::NotRead
     } else {
-        Attribute::Udev(sought(state, selected, place, name))
+        told_attribute(state, place, name, sought(state, selected, place, name))
     }
 }
 
@@ -259,7 +297,8 @@ fn attribute_by<'a>(
     name: &[u8],
 ) -> Attribute<'a>
     ensures { borrowed_subject result
-        ≡ attribute_by state.now.event.profile name.now state.now.event (own_attribute name.now (record state.now { selected = selected }) place) }
+        ≡ attribute_by state.now.event.profile name.now state.now.event (device_at state.now.event place)
+        (own_attribute name.now (record state.now { selected = selected }) place) }
 {
     match state.event.event().profile() {
         Profile::Manual => Attribute::Manual(own_attribute(state, selected, place, name)),

@@ -19,9 +19,9 @@ ghost use Rattle.eval_state.specs.Named.{NamedValue, named, named_place};
 ghost use Rattle.eval_state.specs.Texts.{or_empty};
 ghost use Rattle.eval_state.specs.declared.state.State.{State};
 ghost use Rattle.eval_rendering.specs.Names.{name_text};
-ghost use Rattle.eval_rendering.specs.Paths.{read_value};
+ghost use Rattle.eval_rendering.specs.Paths.{is_unread, read_value};
 ghost use Rattle.eval_rendering.specs.Pieces.{as_read};
-ghost use Rattle.eval_matching.specs.Attributes.{udev_subject, udev_value};
+ghost use Rattle.eval_matching.specs.Attributes.{is_unread_at, told_subject, udev_subject, udev_value};
 ghost use Rattle.eval_matching.specs.Holding.{holds, udev_attribute, udev_unread};
 ghost use Rattle.eval_matching.specs.Subjects.{plain_subject, up_subject};
 ghost use Rattle.eval_matching.specs.Udev.{capped, first_part, last_is, without_end};
@@ -36,26 +36,31 @@ pub fn an_absent_attribute_fails_both()
 /// own attribute does not matter; it is empty if the device has none. Of a device that is not in the chain it is what
 /// the event device has under the whole name, and not read if that has none.
 pub fn a_named_device_is_looked_at()
-    ensures there { (text : Text) (event : EventValue) (own : Option Text) (n : NamedValue) (place : ℕ) (device : DeviceValue)
+    ensures there { (text : Text) (event : EventValue) (at : Option DeviceValue) (own : Option Text) (n : NamedValue) (place : ℕ) (device : DeviceValue)
         → named (open_bracket ∷ text) ≡ Some n → is_empty n.attribute ≡ false → named_place n event ≡ Some place → device_at event place ≡ Some device
-        → udev_subject (open_bracket ∷ text) event own ≡ udev_attribute (Some (capped (as_read (or_empty (value_of device.attrs n.attribute))))) }
-    ensures given { (text : Text) (event : EventValue) (own : Option Text) (n : NamedValue) (value : Text)
+        → udev_subject (open_bracket ∷ text) event at own ≡ udev_attribute (Some (capped (as_read (or_empty (value_of device.attrs n.attribute))))) }
+    ensures given { (text : Text) (event : EventValue) (at : Option DeviceValue) (own : Option Text) (n : NamedValue) (value : Text)
         → named (open_bracket ∷ text) ≡ Some n → is_empty n.attribute ≡ false → named_place n event ≡ None
         → value_of event.device.attrs (open_bracket ∷ text) ≡ Some value
-        → udev_subject (open_bracket ∷ text) event own ≡ udev_attribute (Some (capped (as_read value))) }
-    ensures elsewhere { (text : Text) (event : EventValue) (own : Option Text) (n : NamedValue) → named (open_bracket ∷ text) ≡ Some n
+        → udev_subject (open_bracket ∷ text) event at own ≡ udev_attribute (Some (capped (as_read value))) }
+    ensures elsewhere { (text : Text) (event : EventValue) (at : Option DeviceValue) (own : Option Text) (n : NamedValue) → named (open_bracket ∷ text) ≡ Some n
         → is_empty n.attribute ≡ false → named_place n event ≡ None → value_of event.device.attrs (open_bracket ∷ text) ≡ None
-        → udev_subject (open_bracket ∷ text) event own ≡ udev_unread }
-    ensures nameless { (text : Text) (event : EventValue) (own : Option Text) (n : NamedValue) → named (open_bracket ∷ text) ≡ Some n
-        → is_empty n.attribute ≡ true → udev_subject (open_bracket ∷ text) event own ≡ udev_attribute None }
-    ensures unnamed { (text : Text) (event : EventValue) (own : Option Text) → named (open_bracket ∷ text) ≡ None
-        → udev_subject (open_bracket ∷ text) event own ≡ udev_attribute None }
+        → udev_subject (open_bracket ∷ text) event at own ≡ udev_unread }
+    ensures nameless { (text : Text) (event : EventValue) (at : Option DeviceValue) (own : Option Text) (n : NamedValue) → named (open_bracket ∷ text) ≡ Some n
+        → is_empty n.attribute ≡ true → udev_subject (open_bracket ∷ text) event at own ≡ udev_attribute None }
+    ensures unnamed { (text : Text) (event : EventValue) (at : Option DeviceValue) (own : Option Text) → named (open_bracket ∷ text) ≡ None
+        → udev_subject (open_bracket ∷ text) event at own ≡ udev_attribute None }
 {}
 
-/// A name that does not begin with `[` looks at the device's own attribute.
+/// A name that does not begin with `[` looks at the device's own attribute. If it has none, and the block does not tell what the name
+/// stands for there, it is not read.
 pub fn a_plain_name_looks_at_the_device()
-    ensures { (name : Text) (event : EventValue) (own : Option Text) → begins_with open_bracket name ≡ false
-        → udev_subject name event own ≡ udev_attribute own }
+    ensures had { (name : Text) (event : EventValue) (at : Option DeviceValue) (value : Text) → begins_with open_bracket name ≡ false
+        → udev_subject name event at (Some value) ≡ udev_attribute (Some value) }
+    ensures denied { (name : Text) (event : EventValue) (at : Option DeviceValue) → begins_with open_bracket name ≡ false
+        → is_unread_at name event at ≡ false → udev_subject name event at None ≡ udev_attribute None }
+    ensures untold { (name : Text) (event : EventValue) (at : Option DeviceValue) → begins_with open_bracket name ≡ false
+        → is_unread_at name event at ≡ true → udev_subject name event at None ≡ udev_unread }
 {}
 
 /// A name without a byte that begins a substitution stands for itself. Any other that does not begin with `[` stands
@@ -75,7 +80,7 @@ pub fn a_name_with_a_sign_is_rendered()
 pub fn a_device_that_is_tried_is_selected()
     ensures { (name : Text) (state : State) (place : ℕ) (device : DeviceValue) → state.event.profile ≡ profile.Udev → begins_with open_bracket name ≡ false
         → device_at state.event place ≡ Some device → up_subject (up.Attrs name) state place
-        ≡ udev_attribute (udev_value name (record state { selected = Some place }) device) }
+        ≡ told_subject (is_unread state.event device name) (udev_value name (record state { selected = Some place }) device) }
 {}
 
 /// The first part of a value follows its first bars, and before the next one or its end.

@@ -2,3 +2,4 @@ pub mod SpacedWords
 pub mod Joining
 pub mod Passing
 pub mod Naming
+pub mod Telling

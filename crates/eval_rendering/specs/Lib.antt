@@ -5,4 +5,5 @@ pub mod Shown
 pub mod Bounds
 pub mod Names
 pub mod Lengthened
+pub mod Behind
 pub mod Paths

@@ -1,4 +1,5 @@
--- The attributes that udev reads for a device: its own, those to which a path leads from its folder in sysfs, and links.
+-- The attributes that udev reads for a device: its own, those to which a path leads from its folder in sysfs, links, and those behind
+-- the link `device`.
 use Rattle.std.specs.Prelude.{ℕ, ◌==◌, ◌&&◌, Bool, false, not, if◌then◌else◌, fold, length, Option, Some, None, is_none, is_some, position, unwrap_or, codes}
 use Rattle.std.specs.List.{list_any, range_with_len}
 use Rattle.std.specs.Option.{option_and_then, option_or}
@@ -10,6 +11,7 @@ use Rattle.text_tables.specs.Pairs.{value_of}
 use Rattle.device_core.specs.Values.{DeviceValue, EventValue, chain}
 use Rattle.eval_state.specs.Chains.{device_at}
 use Rattle.eval_state.specs.Files.{is_end}
+use Rattle.eval_rendering.specs.Behind.{is_untold_by, rest_behind, value_behind}
 
 -- whether a name is a path that begins with `.` or `..`
 abbrev pub is_path : Text → Bool
@@ -66,9 +68,11 @@ linked_value device name =
     else if same_text name (codes "subsystem") then device.subsystem
     else None
 
--- what the block does not have under a name as it is written: the attribute to which a path leads, or a link
+-- what the block does not have under a name as it is written: the attribute to which a path leads, a link, or an attribute behind the
+-- link `device`
 abbrev pub other_value : EventValue → DeviceValue → Text → Option Text
-other_value event device name = if is_path name then led_value event device.path name else linked_value device name
+other_value event device name =
+    if is_path name then led_value event device.path name else option_or (linked_value device name) (value_behind event device name)
 
 -- the attribute that udev reads for a device of an event: what the block has under the name goes first
 abbrev pub read_value : EventValue → DeviceValue → Text → Option Text
@@ -84,7 +88,11 @@ abbrev pub is_told : EventValue → (from name : Text) → Bool
 is_told event from name =
     is_file_name (option_and_then (λ place. asked_in from name (device_at event place)) (led_place from name event))
 
--- whether a path of the event device leads to what the block does not have and does not deny
-abbrev pub is_path_unread : Text → EventValue → Bool
-is_path_unread name event =
-    is_path name && (is_none (read_value event event.device name) && not (is_told event event.device.path name))
+-- whether a path from the folder of a device leads to what the block does not have and does not deny
+abbrev pub is_path_untold : EventValue → DeviceValue → Text → Bool
+is_path_untold event device name = is_none (read_value event device name) && not (is_told event device.path name)
+
+-- whether udev may read something for a device under a name of which the block tells nothing
+unfoldable pub is_unread : EventValue → DeviceValue → Text → Bool
+is_unread event device name =
+    if is_path name then is_path_untold event device name else is_untold_by event device name (rest_behind name)

@@ -1,13 +1,16 @@
-//! The attributes that udev reads for a device: its own, those to which a path leads from its folder in sysfs, and links.
+//! The attributes that udev reads for a device: its own, those to which a path leads from its folder in sysfs, links, and those behind
+//! the link `device`.
 ghost use Rattle.std.specs.Prelude.{◌≡◌, ◌==◌, is_some, option_copied, option_map};
 ghost use Rattle.std.specs.List.{list_any};
-ghost use Rattle.std.specs.Option.{option_and_then};
+ghost use Rattle.std.specs.Option.{option_and_then, option_or};
 ghost use Rattle.text_bytes.specs.Names.{slash};
 ghost use Rattle.eval_state.specs.Chains.{device_at};
 ghost use Rattle.eval_state.specs.Files.{is_end};
-ghost use Rattle.eval_rendering.specs.Paths.{asked_in, asked_value, ended, is_file_name, is_path, is_path_unread, is_told, led_place, led_value};
+ghost use Rattle.eval_rendering.specs.Paths.{asked_in, asked_value, ended, is_file_name, is_path, is_path_untold, is_told, is_unread, led_place, led_value};
+ghost use Rattle.eval_rendering.specs.Behind.{value_behind};
 ghost use Rattle.eval_rendering.specs.Paths.{left_after, left_all, left_below, left_folder, linked_value, other_value, read_value, without_dot};
 
+use crate::behind::{is_name_untold, value_behind};
 use device_core::Device;
 use eval_state::Chain;
 use text_bytes::{begins_with, following};
@@ -138,21 +141,33 @@ fn linked_value<'a>(device: &'a Device<'a>, name: &[u8]) -> Option<&'a [u8]>
     }
 }
 
-/// What the block does not have under a name as it is written: the attribute to which a path leads, or a link.
+/// A link of a device, or else an attribute behind its link `device`.
+fn linked_or_behind<'a>(chain: &Chain<'a>, device: &'a Device<'a>, name: &[u8]) -> Option<&'a [u8]>
+    ensures { option_map (λ t. t.now) result ≡ option_or (linked_value device.now name.now) (value_behind chain.now device.now name.now) }
+{
+    if let Some(value) = linked_value(device, name) {
+        return Some(value);
+    }
+    value_behind(chain, device, name)
+}
+
+/// What the block does not have under a name as it is written: the attribute to which a path leads, a link, or an attribute behind
+/// the link `device`.
 fn other_value<'a>(chain: &Chain<'a>, device: &'a Device<'a>, name: &[u8]) -> Option<&'a [u8]>
     ensures { option_map (λ t. t.now) result ≡ other_value chain.now device.now name.now }
 {
     if is_path(name) {
         led_value(chain, device.path(), name)
     } else {
-        linked_value(device, name)
+        linked_or_behind(chain, device, name)
     }
 }
 
 /// The attribute that udev (systemd 257) reads for a device of an event, as far as the block has it: what the block has
 /// under the name goes first. A name that begins with `../` or `./` is a path from the device's folder in sysfs, and may
 /// ask for an attribute of a device above it in the chain. Of the links `driver` and `subsystem` the last component is
-/// read, which is what the block calls the device's driver and its subsystem.
+/// read, which is what the block calls the device's driver and its subsystem. `device/NAME` is the attribute NAME of the next device
+/// above, if the device is of a class and no partition: the kernel then links to it.
 pub fn read_value<'a>(chain: &Chain<'a>, device: &'a Device<'a>, name: &[u8]) -> Option<&'a [u8]>
     ensures { option_map (λ t. t.now) result ≡ read_value chain.now device.now name.now }
 {
@@ -188,12 +203,23 @@ fn is_told(chain: &Chain<'_>, from: &[u8], name: &[u8]) -> bool
     is_file_name(asked(chain, from, name))
 }
 
-/// Whether a name is a path, and leads from the folder of the event device to what the block does not have and does not
-/// deny: above it to no device of the chain, or below such a device into another folder.
-pub fn is_path_unread(name: &[u8], chain: &Chain<'_>) -> bool
-    ensures { result ≡ is_path_unread name.now chain.now }
+/// Whether a path leads from the folder of a device to what the block does not have and does not deny.
+fn is_path_untold<'a>(chain: &Chain<'a>, device: &'a Device<'a>, name: &[u8]) -> bool
+    ensures { result ≡ is_path_untold chain.now device.now name.now }
 {
-    is_path(name)
-        && read_value(chain, chain.device(), name).is_none()
-        && !is_told(chain, chain.device().path(), name)
+    read_value(chain, device, name).is_none() && !is_told(chain, device.path(), name)
+}
+
+/// Whether udev may read something for a device under a name of which the block tells nothing: a path that begins with `.` and leads
+/// above the device to no device of the chain, or below such a device into another folder; a file that has no value of one line; and
+/// a name that leads into a folder of which the block shows nothing, behind the link `device` too.
+#[tactic(auto, unfolding(crate::specs::Paths::is_unread))]
+pub fn is_unread<'a>(chain: &Chain<'a>, device: &'a Device<'a>, name: &[u8]) -> bool
+    ensures { result ≡ is_unread chain.now device.now name.now }
+{
+    if is_path(name) {
+        is_path_untold(chain, device, name)
+    } else {
+        is_name_untold(chain, device, name)
+    }
 }

@@ -37,12 +37,12 @@ use Rattle.eval_state.specs.Notes.{word_of_key}
 use Rattle.eval_state.specs.Scenes.{noted, noted_key}
 use Rattle.eval_state.specs.declared.finals.FinalKey.{FinalKey}
 use Rattle.eval_state.specs.declared.finals.FinalKey.TheVariants.{Name}
-use Rattle.eval_state.specs.declared.note_kind.NoteKind.TheVariants.{AttributeNotRead, ConstantNotGiven, NameIgnored, NoDeviceNumber, TestNotMade, TextTooLong}
+use Rattle.eval_state.specs.declared.note_kind.NoteKind.TheVariants.{AttributeNotRead, ConstantNotGiven, NameIgnored, NoDeviceNumber, TestNotMade, TextTooLong, AttributeGone}
 use Rattle.eval_state.specs.declared.scene.Scene.{Scene}
 use Rattle.eval_acts.specs.Acts.{act_step, on_text, performed}
 use Rattle.eval_acts.specs.Inner.{left}
-use Rattle.eval_acts.specs.Questions.{tested, tested_at, tested_by, tested_by_udev}
-use Rattle.eval_acts.specs.Reaching.{match_reached}
+use Rattle.eval_acts.specs.Questions.{is_somewhere, tested, tested_at, tested_by, tested_by_udev, tested_here}
+use Rattle.eval_acts.specs.Reaching.{is_gone_by, match_reached}
 use Rattle.eval_assignments.specs.Assigning.{assigned}
 use Rattle.eval_assignments.specs.Bounds.{most_bytes_of}
 use Rattle.eval_assignments.specs.Escapes.{escape_of, mode_of}
@@ -89,11 +89,12 @@ walk_still step h (p ∷ ps) s = if_proceeding_still (walk step ps) (walk_still 
 
 reached_still : (r : Rule) (k : PlainKey) (s : Scene) → Still s (match_reached r k s)
 reached_still r (plain.Sysctl name) s = refl
-reached_still r (plain.Attr name) s = by (is_not_read name s.state.event)
+reached_still r (plain.Attr name) s = by (is_not_read name s.state.event) (is_gone_by s.state.event.profile name s.state.event)
   where
-    by : (b : Bool) → Still s (cond b (noted r AttributeNotRead name s) s)
-    by true = refl
-    by false = refl
+    by : (b c : Bool) → Still s (cond b (noted r AttributeNotRead name s) (cond c (noted r AttributeGone name s) s))
+    by true c = refl
+    by false true = refl
+    by false false = refl
 reached_still r (plain.Const name) s = by (is_not_given name s.state.event)
   where
     by : (b : Bool) → Still s (cond b (noted r ConstantNotGiven name s) s)
@@ -119,8 +120,13 @@ at_still : (place : Option ℕ) (r : Rule) (name path : Text) (s : Scene) → St
 at_still None r name path s = either s (is_there s.state.event (place_of s.state.event.device path)) (s, true) (noted r TestNotMade path s, false) refl refl
 at_still (Some place) r name path s = refl
 
+here_still : (r : Rule) (path : Text) (s : Scene) → Still s (tested_here r path s).0
+here_still r path s =
+    either s (is_somewhere s.state.event s.state.event.device path) (s, true) (cond {A = Scene × Bool} (is_not_read path s.state.event) (noted r TestNotMade path s, false) (s, false)) refl
+    (either s (is_not_read path s.state.event) (noted r TestNotMade path s, false) (s, false) refl refl)
+
 named_still : (n : Option NamedValue) (r : Rule) (path : Text) (s : Scene) → Still s (tested_by_udev n r path s).0
-named_still None r path s = refl
+named_still None r path s = here_still r path s
 named_still (Some n) r path s = at_still (named_place n s.state.event) r n.attribute path s
 
 by_still : (p : Profile) (r : Rule) (path : Text) (s : Scene) → Still s (tested_by p r path s).0

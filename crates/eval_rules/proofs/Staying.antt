@@ -1,5 +1,6 @@
 -- What an event says of itself stays, whatever rules do.
 use Rattle.std.proofs.Common.{◌==◌, ◌||◌, ℕ, Bool, true, false, cond, List, [], ◌∷◌, length, Option, Some, None, is_some, refl, nat_le, codes, ◌∙◌}
+use Rattle.std.specs.Option.{option_and_then}
 use Rattle.std.specs.List.{fold}
 use Rattle.text_bytes.specs.Names.{slash}
 use Rattle.text_bytes.specs.Texts.{begins_with}
@@ -44,18 +45,18 @@ use Rattle.eval_state.specs.Named.{NamedValue, named, named_place}
 use Rattle.eval_state.specs.Properties.{properties_set}
 use Rattle.eval_state.specs.Scenes.{noted, with_env}
 use Rattle.eval_state.specs.declared.note_kind.NoteKind.{NoteKind}
-use Rattle.eval_state.specs.declared.note_kind.NoteKind.TheVariants.{AttributeNotRead, BuiltinNotRun, ConstantNotGiven, NoAnswer, TestNotMade, TextTooLong}
+use Rattle.eval_state.specs.declared.note_kind.NoteKind.TheVariants.{AttributeNotRead, BuiltinNotRun, ConstantNotGiven, NoAnswer, TestNotMade, TextTooLong, AttributeGone}
 use Rattle.eval_state.specs.declared.scene.Scene.{Scene}
 use Rattle.eval_acts.specs.Acts.{act_step, command_reached, from_parent_by, import_reached, imported, on_text, performed, too_long_noted}
 use Rattle.eval_acts.specs.BuiltinRuns.{looked_up, most_set, needs_noted, outcome_set, outcome_taken, path_id_run, properties_size, usb_id_run, with_maker}
 use Rattle.eval_acts.specs.RootImports.{file_properties, from_file, from_found}
 use Rattle.eval_acts.specs.Stored.{from_stored, is_stored_known, stored_value}
-use Rattle.eval_acts.specs.Imports.{builtin_run, from_answer_or_noted, from_line, from_parent, from_program, line_for, name_given, not_run, run_builtin, taken}
+use Rattle.eval_acts.specs.Imports.{builtin_run, from_answer_or_noted, from_line, from_parent, from_part, from_program, name_given, not_run, run_builtin, taken, words_for}
 use Rattle.eval_lookups.specs.LookUpNeeds.{lookup_needs}
 use Rattle.eval_lookups.specs.LookUps.{found}
 use Rattle.eval_acts.specs.Printed.{printed_properties}
-use Rattle.eval_acts.specs.Questions.{answered_by_block, answered_or_noted, result_of, tested, tested_at, tested_by, tested_by_udev, with_result}
-use Rattle.eval_acts.specs.Reaching.{match_reached}
+use Rattle.eval_acts.specs.Questions.{answered_by_block, answered_or_noted, is_somewhere, result_of, tested, tested_at, tested_by, tested_by_udev, tested_here, with_result}
+use Rattle.eval_acts.specs.Reaching.{is_gone_by, match_reached}
 use Rattle.eval_assignments.specs.Steps.{set_step}
 use Rattle.eval_rules.specs.Idle.{change_applies, is_idle, note_step}
 use Rattle.eval_rules.specs.Steps.{Went, apply, only_noted, if_proceeding, plain_step, result_step, search, set_all, steps, before_sets, walk}
@@ -75,8 +76,13 @@ at_stays : (place : Option ℕ) (r : Rule) (name path : Text) (s : Scene) → St
 at_stays None r name path s = either s (is_there s.state.event (place_of s.state.event.device path)) (s, true) (noted r TestNotMade path s, false) refl refl
 at_stays (Some place) r name path s = refl
 
+here_stays : (r : Rule) (path : Text) (s : Scene) → Stays s (tested_here r path s).0
+here_stays r path s =
+    either s (is_somewhere s.state.event s.state.event.device path) (s, true) (cond {A = Scene × Bool} (is_not_read path s.state.event) (noted r TestNotMade path s, false) (s, false)) refl
+    (either s (is_not_read path s.state.event) (noted r TestNotMade path s, false) (s, false) refl refl)
+
 named_stays : (n : Option NamedValue) (r : Rule) (path : Text) (s : Scene) → Stays s (tested_by_udev n r path s).0
-named_stays None r path s = refl
+named_stays None r path s = here_stays r path s
 named_stays (Some n) r path s = at_stays (named_place n s.state.event) r n.attribute path s
 
 by_stays : (p : Profile) (r : Rule) (path : Text) (s : Scene) → Stays s (tested_by p r path s).0
@@ -142,9 +148,13 @@ given_stays : (name : Text) (value : Option Text) (s : Scene) → Stays s (name_
 given_stays name None s = refl
 given_stays name (Some value) s = refl
 
-line_stays : (r : Rule) (name : Text) (line : Option Text) (s : Scene) → Stays s (from_line r name line s).0
-line_stays r name None s = refl
-line_stays r name (Some line) s = given_stays name (cmdline_value name line) s
+part_stays : (r : Rule) (name : Text) (given : Option Text) (s : Scene) → Stays s (from_part r name given s).0
+part_stays r name None s = refl
+part_stays r name (Some value) s = refl
+
+line_stays : (r : Rule) (name : Text) (line part : Option Text) (s : Scene) → Stays s (from_line r name line part s).0
+line_stays r name None part s = part_stays r name (option_and_then (cmdline_value name) part) s
+line_stays r name (Some line) part s = given_stays name (cmdline_value name line) s
 
 stored_stays : (r : Rule) (name : Text) (s : Scene) → Stays s (from_stored r name s).0
 stored_stays r name s = by (is_stored_known s.state.event)
@@ -169,7 +179,7 @@ imported_stays Udev known r (import.Program t) s = text_stays (from_program r) (
 imported_stays Manual known r (import.File t) s = refl
 imported_stays Udev known r (import.File t) s = text_stays (from_file known r) (λ path u. found_stays r (known.file path) u) _ s
 imported_stays Manual known r (import.Cmdline name) s = refl
-imported_stays Udev known r (import.Cmdline name) s = line_stays r name (line_for name s.state.event) s
+imported_stays Udev known r (import.Cmdline name) s = line_stays r name (words_for (codes "cmdline") name s.state.event) (words_for (codes "cmdline.part") name s.state.event) s
 imported_stays Manual known r (import.Db name) s = refl
 imported_stays Udev known r (import.Db name) s = stored_stays r name s
 
@@ -201,11 +211,12 @@ act_stays known r act s = late_stays r act.kind (performed known r act.kind s).1
 -- a match that is reached
 pub reached_stays : (r : Rule) (k : PlainKey) (s : Scene) → Stays s (match_reached r k s)
 reached_stays r (plain.Sysctl name) s = refl
-reached_stays r (plain.Attr name) s = by (is_not_read name s.state.event)
+reached_stays r (plain.Attr name) s = by (is_not_read name s.state.event) (is_gone_by s.state.event.profile name s.state.event)
   where
-    by : (b : Bool) → Stays s (cond b (noted r AttributeNotRead name s) s)
-    by true = refl
-    by false = refl
+    by : (b c : Bool) → Stays s (cond b (noted r AttributeNotRead name s) (cond c (noted r AttributeGone name s) s))
+    by true c = refl
+    by false true = refl
+    by false false = refl
 reached_stays r (plain.Const name) s = by (is_not_given name s.state.event)
   where
     by : (b : Bool) → Stays s (cond b (noted r ConstantNotGiven name s) s)

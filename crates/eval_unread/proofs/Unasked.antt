@@ -1,5 +1,5 @@
 -- Rules that ask for no attribute of another device leave no notes by their assignments.
-use Rattle.std.proofs.Common.{◌≡◌, Bool, true, false, cond, ◌&&◌, ◌||◌, List, [], ◌∷◌, ◌++◌, Option, Some, None, append-nil, refl, ap, sym, ◌∙◌}
+use Rattle.std.proofs.Common.{◌≡◌, Bool, true, false, cond, not, ◌&&◌, ◌||◌, List, [], ◌∷◌, ◌++◌, Option, Some, None, append-nil, refl, ap, sym, ◌∙◌}
 use Rattle.std.specs.List.{list_any}
 use Rattle.std.specs.Option.{option_or}
 use Rattle.text_bytes.specs.Names.{dot, open_bracket}
@@ -18,6 +18,9 @@ use Rattle.builtin_knowledge.specs.Knowledge.{Known}
 use Rattle.eval_state.specs.Scenes.{start}
 use Rattle.eval_state.specs.declared.notes.Note.{Note}
 use Rattle.eval_state.specs.declared.scene.Scene.{Scene}
+use Rattle.eval_rendering.specs.Behind.{may_be_untold}
+use Rattle.eval_rendering.specs.Paths.{is_unread}
+use Rattle.eval_rendering.proofs.Telling.{told_name}
 use Rattle.eval_matching.specs.Attributes.{is_not_read, is_not_read_by}
 use Rattle.eval_acts.specs.Unread.{first_unread, unread_in, unread_notes}
 use Rattle.eval_assignments.specs.Finality.{final_key, is_settled}
@@ -38,16 +41,18 @@ name_read : (name : Text) (event : EventValue) → is_of_others name ≡ false �
 unfolding is_not_read
 name_read name event h = by event.profile
   where
-    both : (a b x y : Bool) → a ≡ false → b ≡ false → ((a && x) || (b && y)) ≡ false
-    both true b x y p q = absurd (cc)
-    both false true x y p q = absurd (cc)
-    both false false x y p q = refl
+    no : ((begins_with open_bracket name ≡ false) × (begins_with dot name ≡ false)) × (may_be_untold name ≡ false)
+    no =
+        let outer = neither (begins_with open_bracket name || begins_with dot name) (may_be_untold name) h in
+        (neither (begins_with open_bracket name) (begins_with dot name) outer.0, outer.1)
+
+    both : (a x y : Bool) → a ≡ false → y ≡ false → ((a && x) || (not a && y)) ≡ false
+    both true x y p q = absurd (cc)
+    both false x y p q = q
 
     by : (p : Profile) → is_not_read_by p name event ≡ false
     by Manual = refl
-    by Udev =
-        let no = neither (begins_with open_bracket name) (begins_with dot name) h in
-        both (begins_with open_bracket name) (begins_with dot name) _ _ no.0 no.1
+    by Udev = both (begins_with open_bracket name) _ (is_unread event event.device name) no.0.0 (told_name event event.device name no.0.1 no.1)
 
 piece_read : (event : EventValue) (p : Piece) → piece_asks p ≡ false → unread_in event p ≡ None
 piece_read event (piece.Attr name) h = ap (λ (b : Bool). cond b (Some name) None) (name_read name event h)

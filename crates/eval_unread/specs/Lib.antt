@@ -1,3 +1,4 @@
+pub mod KernelModes
 pub mod Unread
 pub mod Others
 pub mod Inner

@@ -23,6 +23,7 @@ use Rattle.eval_assignments.specs.Steps.{lacks_number, set_step}
 use Rattle.eval_rules.specs.Idle.{is_idle}
 use Rattle.eval_rules.specs.Jumps.{is_passed, sought_after}
 use Rattle.eval_rules.specs.Outcomes.{outcome}
+use Rattle.eval_unread.specs.KernelModes.{with_kernel_mode}
 use Rattle.eval_rules.specs.Steps.{Went, apply, before_sets}
 use Rattle.eval_rules.specs.declared.outcome.Outcome.{Outcome}
 
@@ -77,6 +78,10 @@ unread rules known event = unread_by event.profile rules known event
 abbrev pub with_notes : List Note → Outcome → Outcome
 with_notes more o = record o { notes = o.notes ++ more }
 
--- the whole outcome of an event, as its answer tells it: the notes of the assignments of all rules come after its own
+-- an outcome with what is told besides: the notes of the assignments of all rules after its own, and the kernel's mode
+abbrev pub completed : List Rule → Known → EventValue → Outcome → Outcome
+completed rules known event o = with_kernel_mode event (with_notes (unread rules known event) o)
+
+-- the whole outcome of an event, as its answer tells it
 abbrev pub whole_outcome : List Rule → Known → EventValue → Outcome
-whole_outcome rules known event = with_notes (unread rules known event) (outcome rules known event)
+whole_outcome rules known event = completed rules known event (outcome rules known event)

@@ -1,5 +1,11 @@
 //! When an assignment leaves a note, and when none does. Each function here is empty: its contract is the law.
-ghost use Rattle.std.specs.Prelude.{◌≡◌, ◌↔◌, [], false, if◌then◌else◌, is_some, List, None, Option, true};
+ghost use Rattle.std.specs.Prelude.{◌≡◌, ◌↔◌, ◌∷◌, ℕ, [], codes, false, if◌then◌else◌, is_some, List, None, Option, Some, true};
+ghost use Rattle.text_bytes.specs.Names.{digit_zero};
+ghost use Rattle.text_tables.specs.Pairs.{value_of};
+ghost use Rattle.rule_types.specs.Topics.{mode_of};
+ghost use Rattle.eval_assignments.specs.Modes.{four_digits};
+ghost use Rattle.eval_rules.specs.declared.outcome.Outcome.{Outcome};
+ghost use Rattle.eval_unread.specs.KernelModes.{with_kernel_mode};
 ghost use Rattle.text_bytes.specs.declared.profile.Profile.TheVariants.{Manual, Udev};
 ghost use Rattle.text_bytes.specs.Text.{Text};
 ghost use Rattle.rule_templates.specs.Template as templates;
@@ -8,7 +14,7 @@ ghost use Rattle.rule_types.specs.declared.roles.Target.TheVariants as target;
 ghost use Rattle.rule_types.specs.declared.rule_option.RuleOption.{RuleOption};
 ghost use Rattle.rule_types.specs.declared.types.RunType.{RunType};
 ghost use Rattle.rule_types.specs.Rules.{Rule};
-ghost use Rattle.device_core.specs.Values.{DeviceValue, EventValue};
+ghost use Rattle.device_core.specs.Values.{DeviceValue, EventValue, NumberValue};
 ghost use Rattle.builtin_knowledge.specs.Knowledge.{Known};
 ghost use Rattle.eval_state.specs.Scenes.{start};
 ghost use Rattle.eval_state.specs.declared.notes.Note.{Note};
@@ -58,4 +64,15 @@ pub fn texts_are_rendered_for_the_devices_that_their_keys_apply_to()
 pub fn rules_that_ask_for_no_other_device_leave_no_note()
     ensures manual { (rules : List Rule) (known : Known) (event : EventValue) → event.profile ≡ Manual → unread rules known event ≡ [] }
     ensures unasked { (rules : List Rule) (known : Known) (event : EventValue) → ask_others rules ≡ false → unread rules known event ≡ [] }
+{}
+
+/// The mode of the node is the one that rules set. Without one it is for udev that of the property DEVMODE, if the device has a number
+/// and the mode is written as the kernel writes it, and by the manual there is none.
+pub fn the_mode_of_a_node_is_the_kernels_unless_rules_set_one()
+    ensures set { (event : EventValue) (o : Outcome) (mode : Text) → o.mode ≡ Some mode → (with_kernel_mode event o).mode ≡ Some mode }
+    ensures manual { (event : EventValue) (o : Outcome) → event.profile ≡ Manual → o.mode ≡ None → (with_kernel_mode event o).mode ≡ None }
+    ensures kernel { (event : EventValue) (o : Outcome) (number : NumberValue) (digits : Text) (mode : ℕ) → event.profile ≡ Udev → o.mode ≡ None
+        → event.device.number ≡ Some number → value_of event.device.env (codes "DEVMODE") ≡ Some (digit_zero ∷ digits)
+        → mode_of (digit_zero ∷ digits) ≡ Some mode → (with_kernel_mode event o).mode ≡ Some (four_digits mode) }
+    ensures numberless { (event : EventValue) (o : Outcome) → o.mode ≡ None → event.device.number ≡ None → (with_kernel_mode event o).mode ≡ None }
 {}

@@ -1,17 +1,18 @@
-//! Whether assignments of rules ask for attributes of other devices. It is asked once for all events: rules of which none does
+//! Whether assignments of rules ask for attributes of which a block may tell nothing. It is asked once for all events: rules of which none does
 //! leave no note.
 ghost use Rattle.std.specs.Prelude.{◌≡◌};
 ghost use Rattle.eval_unread.specs.Others.{ask_others, change_asks, is_of_others, piece_asks, pieces_of, rule_asks};
 
+use eval_rendering::may_be_untold;
 use rule_templates::Piece;
 use rule_types::{Assignment, Change, Rule};
 use text_bytes::begins_with;
 
-/// Whether a name may lead to another device: it begins with `[` or with `.`.
+/// Whether a name may lead to another device, or to what a block does not tell.
 fn is_of_others(name: &[u8]) -> bool
     ensures { result ≡ is_of_others name.now }
 {
-    begins_with(b'[', name) || begins_with(b'.', name)
+    begins_with(b'[', name) || begins_with(b'.', name) || may_be_untold(name)
 }
 
 /// Whether a piece is an attribute of such a name.
@@ -53,8 +54,9 @@ fn rule_asks(rule: &Rule) -> bool
         .any(|assignment| assignment_asks(assignment))
 }
 
-/// Whether the text of an assignment of one of these rules asks by `$attr` for an attribute whose name begins with `[` or with
-/// `.`, as names do that lead to another device.
+/// Whether the text of an assignment of one of these rules asks by `$attr` for an attribute of which a block may tell nothing: its
+/// name begins with `[` or with `.`, as names do that lead to another device, leads into a folder, or is that of a file that has no
+/// value of one line.
 pub fn ask_others(rules: &[Rule]) -> bool
     ensures { result ≡ ask_others rules.now }
 {

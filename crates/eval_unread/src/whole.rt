@@ -4,8 +4,9 @@ ghost use Rattle.eval_sources.specs.Reported.{event_commands, stages};
 ghost use Rattle.eval_sources.specs.Sources.{Reports};
 ghost use Rattle.eval_state.specs.Scenes.{start};
 ghost use Rattle.eval_unread.specs.Others.{ask_others};
-ghost use Rattle.eval_unread.specs.Unread.{rules_unread, unread, whole_outcome, with_notes};
+ghost use Rattle.eval_unread.specs.Unread.{completed, rules_unread, unread, whole_outcome, with_notes};
 
+use crate::kernel_modes::with_kernel_mode;
 use crate::watching::noted_after;
 use builtin_knowledge::Knowledge;
 use device_core::Event;
@@ -44,9 +45,8 @@ fn with_noted<'o, K: Knowledge>(
 /// devices that the block does not have, for which the text of an assignment asks by `$attr`. Of each assignment that is made
 /// it is the first such attribute; its substitution is empty. By the manual there are none.
 ///
-/// `asks` says whether the rules ask for attributes of other devices at all, as `ask_others` has it: if not, they are not
-/// evaluated again. If memory runs out, the outcome is dropped.
-pub fn with_unread<'o, K: Knowledge>(
+/// If none asks for attributes of other devices, they are not evaluated again. If memory runs out, the outcome is dropped.
+fn with_unread<'o, K: Knowledge>(
     alloc: Global,
     asks: bool,
     rules: &[Rule],
@@ -66,7 +66,27 @@ pub fn with_unread<'o, K: Knowledge>(
     }
 }
 
-/// The whole outcome of an event by the rules as they are read: that of `evaluate_plain` with the notes that `with_unread` adds.
+/// An outcome with what its answer tells besides: for udev the notes of assignments on attributes that udev would read and a dry run
+/// does not, after its own, and the mode that the kernel gives the node, if no rule set one.
+///
+/// `asks` says whether the rules ask for attributes of other devices at all, as `ask_others` has it. If memory runs out, the outcome
+/// is dropped.
+pub fn completed<'o, K: Knowledge>(
+    alloc: Global,
+    asks: bool,
+    rules: &[Rule],
+    event: &Event<'_>,
+    knowledge: &K,
+    outcome: Outcome<'o>,
+) -> Result<Outcome<'o>, AllocError>
+    requires { asks ≡ ask_others rules.now }
+    ensures { IfOk result (λ all. all ≡ completed rules.now (K.known knowledge.now) event.now outcome.entry) }
+{
+    let noted = with_unread(alloc, asks, rules, event, knowledge, outcome)?;
+    with_kernel_mode(alloc, event, noted)
+}
+
+/// The whole outcome of an event by the rules as they are read: that of `evaluate_plain` with what `completed` adds.
 pub fn evaluate_whole<'a, K: Knowledge>(
     alloc: Global,
     asks: bool,
@@ -78,7 +98,7 @@ pub fn evaluate_whole<'a, K: Knowledge>(
     ensures { IfOk result (λ whole. whole ≡ whole_outcome rules.now (K.known knowledge.now) event.now) }
 {
     let outcome = evaluate_plain(alloc, rules, event, knowledge)?;
-    with_unread(alloc, asks, rules.rules(), event, knowledge, outcome)
+    completed(alloc, asks, rules.rules(), event, knowledge, outcome)
 }
 
 /// The same, with where it comes from, as `evaluate_sources` has it.
@@ -99,7 +119,7 @@ pub fn evaluate_whole_sources<'a, K: Knowledge>(
         sources,
         commands,
     } = evaluate_sources(alloc, rules, event, knowledge)?;
-    let outcome = with_unread(alloc, asks, rules, event, knowledge, outcome)?;
+    let outcome = completed(alloc, asks, rules, event, knowledge, outcome)?;
     Ok(Sourced {
         outcome,
         sources,

@@ -77,7 +77,8 @@ use Rattle.eval_state.specs.Files.{star_place}
 use Rattle.eval_state.specs.Named.{named, named_place}
 use Rattle.eval_state.specs.Start.{start_env}
 use Rattle.eval_rendering.specs.Names.{name_text}
-use Rattle.eval_rendering.specs.Paths.{led_place}
+use Rattle.eval_rendering.specs.Behind.{place_above}
+use Rattle.eval_rendering.specs.Paths.{is_unread, led_place}
 use Rattle.eval_rendering.specs.Rendering.{render}
 use Rattle.eval_matching.specs.Attributes.{udev_value, is_not_read, udev_subject}
 use Rattle.eval_matching.specs.Holding.{holds}
@@ -199,7 +200,7 @@ reading_texts = tt
 
 -- those by which rules are evaluated
 unfoldable evaluating : ⊤
-unfolding star_place named named_place start_env name_text led_place render udev_value is_not_read udev_subject holds
+unfolding star_place named named_place start_env name_text led_place place_above is_unread render udev_value is_not_read udev_subject holds
     holds_at found_place hwdb_of udev_hwdb_of command_words udev_words act_step found has_modalias line_property printed_properties
     file_properties first_unread usb_modalias escape_of set_step is_idle_by run outcome_of walk plain_step result_step steps apply is_not_given
     cmdline_value rule_unread rules_unread

@@ -1,0 +1,207 @@
+//! The link `device` that the kernel puts into the folder of a device of a class, and what a block tells behind it and in folders.
+ghost use Rattle.std.specs.Prelude.{◌≡◌, ◌==◌, option_copied, option_map};
+ghost use Rattle.std.specs.List.{list_any, slice_split};
+ghost use Rattle.text_bytes.specs.Names.{space};
+ghost use Rattle.text_tables.specs.Pairs.{names};
+ghost use Rattle.text_tables.specs.Texts.{same_text};
+ghost use Rattle.eval_state.specs.Chains.{device_at};
+ghost use Rattle.eval_rendering.specs.Behind.{is_above, is_bus, is_long_file, is_long_of_pci, is_of_class, is_partition, is_untold, is_untold_by, is_untold_of};
+ghost use Rattle.eval_rendering.specs.Behind.{leads_into_hidden, lies_in, linked_device, links_up, may_be_untold, next_above, place_above, rest_behind, value_at_link, value_behind};
+
+use device_core::Device;
+use eval_state::Chain;
+use text_bytes::{begins_with, following, split_once};
+use text_tables::Pairs;
+
+/// Whether a path leads into a folder.
+fn lies_in(folder: &[u8], path: &[u8]) -> bool
+    ensures { result ≡ lies_in folder.now path.now }
+{
+    begins_with(b'/', following(folder, path).unwrap_or(b""))
+}
+
+/// Whether one of the words of a text is this one.
+fn has_word(words: &[u8], wanted: &[u8]) -> bool
+    ensures { result ≡ list_any (λ word. same_text word wanted.now) (slice_split (λ b. b == space) words.now) }
+{
+    words.split(|byte| *byte == b' ').any(|word| word == wanted)
+}
+
+/// Whether a subsystem is one of the buses that the block names.
+fn is_bus(chain: &Chain<'_>, subsystem: &[u8]) -> bool
+    ensures { result ≡ is_bus chain.now subsystem.now }
+{
+    has_word(
+        chain.event().constants().get(b"bus").unwrap_or(b""),
+        subsystem,
+    )
+}
+
+/// Whether a device of a subsystem is of a class.
+fn is_of_class(chain: &Chain<'_>, device: &Device<'_>, subsystem: Option<&[u8]>) -> bool
+    ensures { result ≡ is_of_class chain.now device.now (option_map (λ t. t.now) subsystem.entry) }
+{
+    match subsystem {
+        Some(subsystem) => {
+            !is_bus(chain, subsystem)
+                && device.driver().is_none()
+                && device.attrs().get(b"device").is_none()
+        }
+        None => false,
+    }
+}
+
+/// Whether a device is a part of a disk.
+fn is_partition(device: &Device<'_>) -> bool
+    ensures { result ≡ is_partition device.now }
+{
+    device.env().get(b"DEVTYPE").unwrap_or(b"") == b"partition".as_slice()
+}
+
+/// Whether the kernel puts a link to the next device above into the folder of a device.
+fn links_up(chain: &Chain<'_>, device: &Device<'_>) -> bool
+    ensures { result ≡ links_up chain.now device.now }
+{
+    is_of_class(chain, device, device.subsystem()) && !is_partition(device)
+}
+
+/// Whether there is a device, and a path leads into its folder.
+fn is_above(path: &[u8], device: Option<&Device<'_>>) -> bool
+    ensures { result ≡ is_above path.now (option_copied device.entry) }
+{
+    match device {
+        Some(device) => lies_in(device.path(), path),
+        None => false,
+    }
+}
+
+/// The place in the chain of the next device above a path.
+#[tactic(auto, unfolding(crate::specs::Behind::place_above))]
+fn place_above(chain: &Chain<'_>, path: &[u8]) -> Option<usize>
+    ensures { result ≡ place_above path.now chain.now }
+{
+    (0..chain.event().device_count()).position(|place| is_above(path, chain.device_at(place)))
+}
+
+/// The next device above a device, if the block has one.
+fn next_above<'a>(chain: &Chain<'a>, device: &Device<'_>) -> Option<&'a Device<'a>>
+    ensures { option_copied result ≡ next_above chain.now device.now }
+{
+    chain.device_at(place_above(chain, device.path())?)
+}
+
+/// The device that the link `device` of a device leads to, if the kernel puts one there and the block has it: the next device above
+/// one of a class that is no partition. A subsystem is a bus, and no class, if the block's `K: bus=` has it among its words, or if the
+/// device has a driver or a file `device`.
+pub fn linked_device<'a>(chain: &Chain<'a>, device: &Device<'_>) -> Option<&'a Device<'a>>
+    ensures { option_copied result ≡ linked_device chain.now device.now }
+{
+    if links_up(chain, device) {
+        next_above(chain, device)
+    } else {
+        None
+    }
+}
+
+/// An attribute of the device that the link of a device leads to.
+fn value_at_link<'a>(chain: &Chain<'a>, device: &Device<'_>, rest: &[u8]) -> Option<&'a [u8]>
+    ensures { option_map (λ t. t.now) result ≡ value_at_link chain.now device.now rest.now }
+{
+    linked_device(chain, device)?.attrs().get(rest)
+}
+
+/// What a name asks for behind the link, if it leads through it.
+fn rest_behind(name: &[u8]) -> Option<&[u8]>
+    ensures { option_map (λ t. t.now) result ≡ rest_behind name.now }
+{
+    following(b"device/", name)
+}
+
+/// The attribute that a name asks for behind the link of a device.
+pub(crate) fn value_behind<'a>(
+    chain: &Chain<'a>,
+    device: &Device<'_>,
+    name: &[u8],
+) -> Option<&'a [u8]>
+    ensures { option_map (λ t. t.now) result ≡ value_behind chain.now device.now name.now }
+{
+    value_at_link(chain, device, rest_behind(name)?)
+}
+
+/// Whether a name is that of a file of devices on PCI that has no value of one line.
+fn is_long_of_pci(name: &[u8]) -> bool
+    ensures { result ≡ is_long_of_pci name.now }
+{
+    name == b"resource".as_slice() || name == b"config".as_slice()
+}
+
+/// Whether a file of a device has no value of one line.
+fn is_long_file(device: &Device<'_>, name: &[u8]) -> bool
+    ensures { result ≡ is_long_file device.now name.now }
+{
+    name == b"uevent".as_slice()
+        || (is_long_of_pci(name) && device.subsystem().unwrap_or(b"") == b"pci".as_slice())
+}
+
+/// Whether there may be something of which a block tells nothing under a name that is no path: it leads into a folder, or a file of this
+/// name has no value of one line.
+pub fn may_be_untold(name: &[u8]) -> bool
+    ensures { result ≡ may_be_untold name.now }
+{
+    name == b"uevent".as_slice() || is_long_of_pci(name) || split_once(b'/', name).is_some()
+}
+
+/// Whether one of these names leads into a folder.
+fn any_lies_in(folder: &[u8], pairs: &Pairs<'_>) -> bool
+    ensures { result ≡ list_any (lies_in folder.now) (names pairs.now) }
+{
+    for (name, _) in pairs.as_map().iter() {
+        if lies_in(folder, name) {
+            return true;
+        }
+    }
+    false
+}
+
+/// Whether a name leads into a folder of which the block shows nothing, by where its first folder ends.
+fn leads_into_hidden(device: &Device<'_>, cut: Option<(&[u8], &[u8])>) -> bool
+    ensures { result ≡ leads_into_hidden device.now (option_map (λ p. (p.0.now, p.1.now)) cut.entry) }
+{
+    match cut {
+        Some((folder, _)) => !any_lies_in(folder, device.attrs()),
+        None => false,
+    }
+}
+
+/// Whether the block does not tell what a name of a device stands for.
+fn is_untold(device: &Device<'_>, name: &[u8]) -> bool
+    ensures { result ≡ is_untold device.now name.now }
+{
+    device.attrs().get(name).is_none()
+        && (is_long_file(device, name) || leads_into_hidden(device, split_once(b'/', name)))
+}
+
+/// The same behind a link to a device.
+fn is_untold_of(path: &[u8], rest: &[u8], above: Option<&Device<'_>>) -> bool
+    ensures { result ≡ is_untold_of path.now rest.now (option_copied above.entry) }
+{
+    match above {
+        Some(above) => is_untold(above, rest),
+        None => following(b"/devices/virtual/", path).is_none(),
+    }
+}
+
+/// Whether the block does not tell what a name of a device stands for, that is no path: it is none of its attributes, also behind
+/// the link `device`, and may be there nevertheless.
+pub(crate) fn is_name_untold(chain: &Chain<'_>, device: &Device<'_>, name: &[u8]) -> bool
+    ensures { result ≡ is_untold_by chain.now device.now name.now (rest_behind name.now) }
+{
+    match rest_behind(name) {
+        Some(rest) => {
+            is_untold(device, name)
+                && links_up(chain, device)
+                && is_untold_of(device.path(), rest, next_above(chain, device))
+        }
+        None => is_untold(device, name),
+    }
+}

@@ -208,9 +208,7 @@ RULES = [
 
 FORMATS = [
     *(Case(f"messages of each of 40 lines, {form}", 180, lambda n, form=form: many_messages(form, n))
-      for form in ("plain", "gcc", "github", "json", "human", "gitlab")),
-    # the characters before each place are counted
-    Case("messages of each of 40 lines, sarif", 180, lambda n: many_messages("sarif", n), 150),
+      for form in ("plain", "gcc", "github", "json", "human", "gitlab", "sarif")),
 ]
 
 TOLD = [

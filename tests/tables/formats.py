@@ -274,6 +274,15 @@ LONG_LINES = [
     *in_formats("a long line of bytes that are not UTF-8", b'TAG+="' + b"\xff\xe2\x80" * 100 + b'",<S2|TAG>+="y"', formats=["gitlab", "sarif"]),
 ]
 
+# Columns of characters, with places that follow one another, that are within one another, and in lines that begin alike.
+COLUMNS = [
+    *in_formats("places of a line after one another", 'TAG+="\u00e4",<S2|TAG>+="\u20ac",<S2|TAG>+="\U0001f600",<S2|TAG>+="y"', formats=["sarif"]),
+    *in_formats("places in lines that begin alike", *(f'TAG+="\u00e4",<S2|TAG>+="{end}",<S2|TAG>+="y"' for end in ("\u20ac", "e", "\u20ac")), formats=["sarif"]),
+    *in_formats("a place in the next line, and one before the last place", 'TAG+="\u00e4\u20ac",<S2|TAG>+="y"', '<V2|FOO>=="\u20ac"', 'TAG+="\u00e4\u20ac", <V2|FOO>=="y"',
+                formats=["sarif"]),
+    *in_formats("places of a line of bytes that are not UTF-8", b'TAG+="\xff\xa4\xa4",<S2|TAG>+="\xa4\xe2\x82",<S2|TAG>+="y"', formats=["sarif"]),
+]
+
 
 def in_image(form):
     """A run over an image whose folders have files; `plain` has only their names."""
@@ -320,6 +329,7 @@ ROWS = [
     *NAMES,
     *WINDOWS,
     *LONG_LINES,
+    *COLUMNS,
     Row("a path is written as it was opened, except for GitHub", ["verify", "--format=github", GITHUB_PATH], {GITHUB_PATH: "FOO\\=\n"},
         output="1 files checked, 0 good, 1 bad\n", status=1,
         messages=b"::error file=a\\b%2Cc%3Ad%2525%0A%0De%09%1B \xC3\xA4.rules,line=1,col=1,endColumn=6,title=V1::bad syntax: FOO\\x5C=\n"),

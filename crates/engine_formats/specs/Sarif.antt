@@ -43,10 +43,17 @@ rule_object remark = object_of (
     ∷ (codes "defaultConfiguration", object_of ((codes "level", string (severity_word (severity_of remark))) ∷ []))
     ∷ [])
 
--- a column of a line, counted in characters from 1, by the one that is counted in bytes; a byte that continues a
--- character of UTF-8 is none
+-- how many characters begin in a text; a byte that continues a character of UTF-8 begins none
+abbrev pub begun_in : Text → ℕ
+begun_in text = count_by (λ b. not (continues b)) text
+
+-- what is before a column of a line, counted in bytes from 1
+abbrev pub before_column : Text → ℕ → Text
+before_column source column = take (column - 1) source
+
+-- a column of a line, counted in characters from 1, by the one that is counted in bytes
 abbrev pub character_column : Text → ℕ → ℕ
-character_column source column = capped (count_by (λ b. not (continues b)) (take (column - 1) source) + 1)
+character_column source column = capped (begun_in (before_column source column) + 1)
 
 -- where in its file a diagnostic is
 abbrev pub region_object : DiagnosticValue → Json

@@ -6,6 +6,7 @@
 
 mod advice;
 mod codes;
+mod columns;
 mod database_lints;
 mod diagnostic;
 mod fingerprints;

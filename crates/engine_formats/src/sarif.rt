@@ -1,28 +1,26 @@
 //! Diagnostics as a log of static analysis, as SARIF 2.1.0 has it.
-ghost use Rattle.std.specs.Prelude.{◌≡◌, ◌∷◌, ◌++◌, [], codes, count_by, map, flat_map, not, IfOk, OnOk};
+ghost use Rattle.std.specs.Prelude.{◌≡◌, ◌∷◌, ◌++◌, [], codes, map, flat_map, IfOk, OnOk};
 ghost use Rattle.engine_ends.specs.Places.{word_part};
 ghost use Rattle.json.specs.Json.{string};
 ghost use Rattle.json.specs.Token as token;
 ghost use Rattle.json.specs.Tree.{json_tokens};
 ghost use Rattle.engine_formats.specs.Diagnostics.{shown};
 ghost use Rattle.engine_formats.specs.Fingerprints.{shown_given};
-ghost use Rattle.engine_formats.specs.Human.{continues};
 ghost use Rattle.text_json.specs.Values.{array_of, object_of};
 ghost use Rattle.engine_formats.specs.Remarks.{text_of};
-ghost use Rattle.engine_formats.specs.Sarif.{character_column, log_object, message_byte, message_object, message_text, place_object, region_object};
+ghost use Rattle.engine_formats.specs.Sarif.{log_object, message_byte, message_object, message_text, place_object, region_object};
 ghost use Rattle.engine_formats.specs.Sarif.{result_object, rule_object, run_object, sarif_log, tool_object};
 ghost use Rattle.engine_formats.specs.Tokens.{result_tokens, rule_tokens};
 
+use crate::columns::Counted;
 use crate::diagnostic::Diagnostic;
 use crate::fingerprints::{Fingerprinted, with_fingerprints};
 use crate::json_members::write_text;
-use crate::marks::{continues, prefix};
 use crate::remark::Remark;
 use crate::uris::uri_of;
 use engine_ends::push_word;
 use json::Writer;
 use std::alloc::{AllocError, Global};
-use text_bytes::capped;
 use text_json::{write_number, write_word};
 
 /// Where the schema of a log is.
@@ -206,17 +204,19 @@ fn write_each_result(
     ensures tokens { OnOk result (writer.new.tokens ≡ writer.old.tokens ++ flat_map result_tokens (map shown_given given.now)) }
     ensures before { OnOk result (writer.new.before ≡ writer.old.before) }
 {
+    let mut counted = Counted::new();
     for one in given {
-        write_result(alloc, writer, one)?;
+        write_result(alloc, writer, &mut counted, one)?;
     }
     Ok(())
 }
 
 /// Writes the result of a diagnostic.
-fn write_result(
+fn write_result<'a>(
     alloc: Global,
     writer: &mut Writer,
-    given: &Fingerprinted<'_, '_>,
+    counted: &mut Counted<'a>,
+    given: &Fingerprinted<'_, 'a>,
 ) -> Result<(), AllocError>
     ensures tokens { OnOk result (writer.new.tokens ≡ writer.old.tokens ++ result_tokens (shown_given given.now)) }
     ensures before { OnOk result (writer.new.before ≡ writer.old.before) }
@@ -230,7 +230,7 @@ fn write_result(
     write_message(alloc, writer, "message", &said)?;
     writer.key("locations")?;
     writer.begin_array()?;
-    write_place(alloc, writer, diagnostic)?;
+    write_place(alloc, writer, counted, diagnostic)?;
     writer.end_array()?;
     write_fingerprint(writer, &given.fingerprint)?;
     writer.end_object()?;
@@ -260,10 +260,11 @@ fn write_fingerprint(writer: &mut Writer, fingerprint: &str) -> Result<(), Alloc
 }
 
 /// Writes where a diagnostic is.
-fn write_place(
+fn write_place<'a>(
     alloc: Global,
     writer: &mut Writer,
-    diagnostic: &Diagnostic<'_>,
+    counted: &mut Counted<'a>,
+    diagnostic: &Diagnostic<'a>,
 ) -> Result<(), AllocError>
     ensures tokens { OnOk result (writer.new.tokens ≡ writer.old.tokens ++ json_tokens (place_object (shown diagnostic.now))) }
     ensures before { OnOk result (writer.new.before ≡ writer.old.before) }
@@ -277,38 +278,27 @@ fn write_place(
     write_text(alloc, writer, "uri", &uri)?;
     writer.end_object()?;
     writer.key("region")?;
-    write_region(writer, diagnostic)?;
+    write_region(writer, counted, diagnostic)?;
     writer.end_object()?;
     writer.end_object()?;
     Ok(())
 }
 
 /// Writes where in its file a diagnostic is.
-fn write_region(writer: &mut Writer, diagnostic: &Diagnostic<'_>) -> Result<(), AllocError>
+fn write_region<'a>(
+    writer: &mut Writer,
+    counted: &mut Counted<'a>,
+    diagnostic: &Diagnostic<'a>,
+) -> Result<(), AllocError>
     ensures tokens { OnOk result (writer.new.tokens ≡ writer.old.tokens ++ json_tokens (region_object (shown diagnostic.now))) }
     ensures before { OnOk result (writer.new.before ≡ writer.old.before) }
 {
-    let begins = character_column(diagnostic.source, diagnostic.column);
-    let ends = character_column(diagnostic.source, diagnostic.end);
+    let begins = counted.move_to(diagnostic.source, diagnostic.column);
+    let ends = counted.character_column(diagnostic.source, diagnostic.end);
     writer.begin_object()?;
     write_number(writer, "startLine", diagnostic.line)?;
     write_number(writer, "startColumn", begins)?;
     write_number(writer, "endColumn", ends)?;
     writer.end_object()?;
     Ok(())
-}
-
-/// A column of a line, counted in characters from 1, by the one that is counted in bytes.
-fn character_column(source: &[u8], column: u32) -> u32
-    ensures { result ≡ character_column source.now column }
-{
-    let before = prefix(source, (column as usize).saturating_sub(1));
-    capped(begun_in(before).saturating_add(1))
-}
-
-/// How many characters begin in a text.
-fn begun_in(bytes: &[u8]) -> usize
-    ensures { result ≡ count_by (λ b. not (continues b)) bytes.now }
-{
-    bytes.iter().filter(|byte| !continues(**byte)).count()
 }

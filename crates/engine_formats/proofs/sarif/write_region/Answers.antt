@@ -10,6 +10,6 @@ returns-clause-tokens c =
       c.in_ok-write_number.ensures.tokens,
       c.in_ok-begin_object.ensures.ok,
       c.character_column-ends.ensures,
-      c.character_column-begins.ensures,
+      c.move_to-begins.ensures.column,
     )
     (simp append_assoc)

@@ -37,7 +37,6 @@ def block(given):
         *(f"A: {name}={value}" for name, value in attributes.items()),
         *([f"K: cmdline={cmdline}"] if cmdline else []),
         *(f"K: {line}" for line in given.get("machine", ())),
-        *(f"K: {text}" for text in given.get("machine", ())),
     ))
 
 
@@ -64,7 +63,10 @@ MACHINES = [
     ("Kind", ["kind=veth"], {"veth": True, "v*": True, "bridge veth": True, "!bridge": True, "VETH": False, "!veth": False}),
     ("Kind", ["kind="], {"veth": False, "*": False, "!veth": True}),
     ("PermanentMACAddress", ["permaddr=02:00:00:00:00:01"], {"02:00:00:00:00:01": True, "12:34:56:78:90:ab": False}),
-    ("KernelVersion", ["kernel=6.18"], {"6.*": "KernelVersion"}),
+    ("KernelCommandLine", ["cmdline.part=quiet a=1"], {"quiet": True, "a": True, "a=1": True, "!quiet": False, "a=2": "cmdline", "!a=2": "cmdline", "x": "cmdline"}),
+    ("KernelCommandLine", ["arch=x86-64"], {"quiet": "cmdline", "!quiet": "cmdline"}),
+    ("KernelVersion", ["kernel=6.18"], {"6.*": True, '"6.*': False, ">6": "KernelVersion"}),
+    ("KernelVersion", ["arch=x86-64"], {"6.*": "KernelVersion", "!6.*": "KernelVersion"}),
 ]
 NAMED = ["ID_NET_LINK_FILE=/etc/systemd/network/10-a.link", "ID_NET_LINK_FILE_DROPINS=", "ID_NET_NAME=abc0"]
 

@@ -36,7 +36,7 @@ NOT_MET = [
     "KernelVersion=6.18*\tx",
     "Kind=!veth", "Kind=bridge", "Kind=VETH", "Kind=",
 ]
-# The same of versions that are compared by their order.
+# The same of versions that are compared by their order: of these a note is left in place of the answer.
 IN_ORDER = [
     "KernelVersion=>5", "KernelVersion=> 5", "KernelVersion=>=6.18", f"KernelVersion=<={RELEASE}", f"KernelVersion=={RELEASE}", "KernelVersion=!=6.18",
     "KernelVersion=<>6.18", f"KernelVersion==={RELEASE}", "KernelVersion=>6.17 <6.19", "KernelVersion=!<6", 'KernelVersion=">5 <7"',
@@ -46,17 +46,14 @@ IN_ORDER = [
 NOT_IN_ORDER = [
     "KernelVersion=<6.18", "KernelVersion=<=6.18.44", "KernelVersion=>6.17 <6.18", "KernelVersion=>6.18.100", "KernelVersion=>", "KernelVersion=>=",
 ]
-# What the block does not tell, or is not read of it: a note in place of the answer.
-NOTED = {"Architecture": "Architecture", "Virtualization": "Virtualization", "Kind": "Kind", "KernelCommandLine": "cmdline", "KernelVersion": "KernelVersion"}
 NAMED = ["ID_NET_LINK_FILE=/etc/systemd/network/10-a.link", "ID_NET_LINK_FILE_DROPINS=", "ID_NET_NAME=abc0"]
 
 
 def cases():
     """Each with a name, its file, what differs from the event of the other cases, what udevadm printed, and devdry's lines if they are others."""
-    for texts, lines in ((MET + IN_ORDER, NAMED), (NOT_MET + NOT_IN_ORDER, [])):
+    ordered = ["note KernelVersion"]
+    for texts, lines, note in ((MET, NAMED, None), (NOT_MET, [], None), (IN_ORDER, NAMED, ordered), (NOT_IN_ORDER, [], ordered)):
         for text in texts:
-            key, value = text.split("\n")[0].split("=")[0], text.split("\n")[-1].split("=", 1)[1]
-            note = [f"note {NOTED[key]}"] if value and key in NOTED else None
             yield f"a machine: {text}", {"10-a.link": f"[Match]\n{text}\n[Link]\nName=abc0\n"}, {"cmdline": LINE, "machine": MACHINE}, lines, note
 
 

@@ -78,10 +78,14 @@ with_switch held word = option_or (following (codes "net.ifnames=") word) held
 abbrev pub last_switch : List Text → Option Text
 last_switch words = fold with_switch None words
 
+-- the kernel's command line, or the words of it that the block gives
+abbrev pub command_line : EventValue → Option Text
+command_line event = option_or (file_at event (codes "cmdline")) (file_at event (codes "cmdline.part"))
+
 -- whether policies count: the kernel's command line, if the block gives it, may say that they don't
 unfoldable pub policies_count : EventValue → Bool
 policies_count event =
-    not (option_map_or (λ line. option_map_or is_no (last_switch (words_of Glob line)) false) (file_at event (codes "cmdline")) false)
+    not (option_map_or (λ line. option_map_or is_no (last_switch (words_of Glob line)) false) (command_line event) false)
 
 -- the name that an interface has
 abbrev pub present_name : List Pair → Option Text

@@ -26,7 +26,7 @@ fn without_sign(word: &[u8]) -> &[u8]
 }
 
 /// Whether a text fits a pattern of fnmatch(3).
-fn fits_glob(alloc: Global, glob: &[u8], text: &[u8]) -> Result<bool, AllocError>
+pub(crate) fn fits_glob(alloc: Global, glob: &[u8], text: &[u8]) -> Result<bool, AllocError>
     ensures { IfOk result (λ fits. fits ≡ fits_glob glob.now text.now) }
 {
     let pattern = Pattern::read_fnmatch(alloc, Reading::Exact, glob)?;

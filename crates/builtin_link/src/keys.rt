@@ -47,15 +47,20 @@ fn permanent_address<'a>(event: &Event<'a>) -> Option<&'a [u8]>
 }
 
 /// A condition on the machine, by its key.
-fn condition_check(event: &Event<'_>, settings: &[Setting], key: &[u8], need: Need) -> Check
-    ensures { result ≡ condition_check event.now settings.now (key.now, need) }
+fn condition_check(
+    alloc: Global,
+    event: &Event<'_>,
+    settings: &[Setting],
+    key: &[u8],
+    need: Need,
+) -> Result<Check, AllocError>
+    ensures { IfOk result (λ check. check ≡ condition_check event.now settings.now (key.now, need)) }
 {
     let value = last_of(MATCH, key, settings);
     if value.is_empty() {
-        Check::Absent
-    } else {
-        Check::told(need, written_holds(event, need, value))
+        return Ok(Check::Absent);
     }
+    Ok(Check::told(need, written_holds(alloc, event, need, value)?))
 }
 
 /// Whether the kernel's name of an interface fits OriginalName.
@@ -198,6 +203,7 @@ fn kind_checks(
 
 /// Adds the conditions on the machine.
 fn add_conditions(
+    alloc: Global,
     event: &Event<'_>,
     settings: &[Setting],
     conditions: &[(&[u8], Need)],
@@ -207,7 +213,7 @@ fn add_conditions(
         ≡ checks.old.items ++ map (condition_check event.now settings.now) (map (λ condition. (condition.0.now, condition.1)) conditions.now)) }
 {
     for condition in conditions {
-        checks.push(condition_check(event, settings, condition.0, condition.1))?;
+        checks.push(condition_check(alloc, event, settings, condition.0, condition.1)?)?;
     }
     Ok(())
 }
@@ -224,6 +230,6 @@ pub(crate) fn checks_of(
 {
     let mut checks = Vec::from_slice(alloc, &name_checks(alloc, event, env, settings)?)?;
     checks.extend_from_slice(&kind_checks(alloc, event, env, settings)?)?;
-    add_conditions(event, settings, &CONDITIONS, &mut checks)?;
+    add_conditions(alloc, event, settings, &CONDITIONS, &mut checks)?;
     Ok(checks)
 }

@@ -1,14 +1,25 @@
 //! The conditions of a `.link` file on the machine, by what a block tells of it.
-ghost use Rattle.std.specs.Prelude.{◌≡◌, option_map};
+ghost use Rattle.std.specs.Prelude.{◌≡◌, IfOk, codes, option_map};
+ghost use Rattle.std.specs.List.{list_all, list_any};
+ghost use Rattle.std.specs.Option.{option_map_or};
 ghost use Rattle.text_bytes.specs.Texts.{following};
+ghost use Rattle.link_files.specs.Words.{words_of};
+ghost use Rattle.link_files.specs.declared.words.WordKind.TheVariants.{Property};
+ghost use Rattle.eval_commands.specs.Cmdline.{has_word};
+ghost use Rattle.builtin_link.specs.Globs.{fits_glob};
 ghost use Rattle.text_tables.specs.Texts.{is_among};
-ghost use Rattle.builtin_link.specs.Machines.{condition_holds, containers, is_built_for, is_kind_of, is_virtual, is_virtualized};
-ghost use Rattle.builtin_link.specs.Machines.{negated_holds, virtualization_holds, written_holds};
+ghost use Rattle.text_tables.specs.Pairs.{value_of};
+ghost use Rattle.builtin_link.specs.Machines.{command_line_holds, condition_holds, containers, fits_words, has_operator, held_in, is_built_for};
+ghost use Rattle.builtin_link.specs.Machines.{is_kind_of, is_virtual, is_virtualized, version_holds, virtualization_holds, written_holds};
 
 use crate::checks::Need;
+use crate::globs::fits_glob;
+use builtin_devices::file_at;
 use device_core::Event;
-use link_files::{is_no, is_yes};
-use text_bytes::{following, unindented};
+use eval_commands::has_word;
+use link_files::{WordKind, is_no, is_whole, is_yes, words_of};
+use std::alloc::{AllocError, Global};
+use text_bytes::{Bytes, begins_with, following, unindented};
 use text_tables::is_among;
 
 /// The names of virtualization that are those of containers.
@@ -85,23 +96,115 @@ fn is_built_for(arch: &[u8], value: &[u8]) -> bool
     value == arch || value == b"native".as_slice()
 }
 
+/// Whether a command line has a word, if there is one.
+fn has_word_in(alloc: Global, word: &[u8], line: Option<&[u8]>) -> Result<Option<bool>, AllocError>
+    ensures { IfOk result (λ has. has ≡ option_map (has_word word.now) (option_map (λ t. t.now) line.entry)) }
+{
+    match line {
+        Some(line) => Ok(Some(has_word(alloc, word, line)?)),
+        None => Ok(None),
+    }
+}
+
+/// Whether the kernel's command line has a word, if the block tells it: of a part of it only what is there counts.
+fn command_line_holds(
+    alloc: Global,
+    event: &Event<'_>,
+    word: &[u8],
+) -> Result<Option<bool>, AllocError>
+    ensures { IfOk result (λ holds. holds ≡ command_line_holds event.now word.now) }
+{
+    if let Some(is_there) = has_word_in(alloc, word, file_at(event, b"cmdline"))? {
+        return Ok(Some(is_there));
+    }
+    match has_word_in(alloc, word, file_at(event, b"cmdline.part"))? {
+        Some(true) => Ok(Some(true)),
+        Some(false) | None => Ok(None),
+    }
+}
+
+/// Whether a word about a version begins with an operator.
+fn has_operator(word: &[u8]) -> bool
+    ensures { result ≡ has_operator word.now }
+{
+    b"<>=!$".iter().any(|sign| begins_with(*sign, word))
+}
+
+/// Whether one of these words does.
+fn have_operator(words: &[Bytes]) -> bool
+    ensures { result ≡ list_any has_operator words.now }
+{
+    words.iter().any(|word| has_operator(word.as_slice()))
+}
+
+/// Whether a version fits each of these patterns.
+fn fits_each(alloc: Global, words: &[Bytes], version: &[u8]) -> Result<bool, AllocError>
+    ensures { IfOk result (λ fits. fits ≡ list_all (λ word. fits_glob word version.now) words.now) }
+{
+    for word in words {
+        if !fits_glob(alloc, word.as_slice(), version)? {
+            return Ok(false);
+        }
+    }
+    Ok(true)
+}
+
+/// Whether the value of KernelVersion is true of the kernel, if the block tells it.
+fn version_holds(alloc: Global, event: &Event<'_>, value: &[u8]) -> Result<Option<bool>, AllocError>
+    ensures { IfOk result (λ holds. holds ≡ version_holds event.now value.now) }
+{
+    let words = words_of(alloc, WordKind::Property, value)?;
+    if have_operator(&words) {
+        return Ok(None);
+    }
+    let Some(version) = event.constants().get(b"kernel") else {
+        return Ok(None);
+    };
+    if !is_whole(alloc, WordKind::Property, value)? {
+        return Ok(Some(false));
+    }
+    Ok(Some(fits_each(alloc, &words, version)?))
+}
+
+/// Whether Architecture holds, if the block tells it.
+fn architecture_holds(event: &Event<'_>, value: &[u8]) -> Option<bool>
+    ensures { result ≡ option_map (λ arch. is_built_for arch value.now) (value_of event.now.constants (codes "arch")) }
+{
+    Some(is_built_for(event.constants().get(b"arch")?, value))
+}
+
 /// Whether a condition holds of the machine, by what would tell it and its value, if the block tells it.
-fn condition_holds(event: &Event<'_>, need: Need, value: &[u8]) -> Option<bool>
-    ensures { result ≡ condition_holds event.now need value.now }
+fn condition_holds(
+    alloc: Global,
+    event: &Event<'_>,
+    need: Need,
+    value: &[u8],
+) -> Result<Option<bool>, AllocError>
+    ensures { IfOk result (λ holds. holds ≡ condition_holds event.now need value.now) }
 {
     match need {
-        Need::Architecture => Some(is_built_for(event.constants().get(b"arch")?, value)),
-        Need::Virtualization => virtualization_holds(event, value),
-        _ => None,
+        Need::Architecture => Ok(architecture_holds(event, value)),
+        Need::Virtualization => Ok(virtualization_holds(event, value)),
+        Need::KernelCommandLine => command_line_holds(alloc, event, value),
+        Need::KernelVersion => version_holds(alloc, event, value),
+        _ => Ok(None),
     }
 }
 
 /// Whether a condition holds, as it is written: a `!` in front negates it.
-pub(crate) fn written_holds(event: &Event<'_>, need: Need, value: &[u8]) -> Option<bool>
-    ensures { result ≡ written_holds event.now need value.now }
+#[tactic(auto, unfolding(crate::specs::Machines::written_holds))]
+pub(crate) fn written_holds(
+    alloc: Global,
+    event: &Event<'_>,
+    need: Need,
+    value: &[u8],
+) -> Result<Option<bool>, AllocError>
+    ensures { IfOk result (λ holds. holds ≡ written_holds event.now need value.now) }
 {
     match following(b"!", value) {
-        Some(rest) => Some(!condition_holds(event, need, unindented(rest))?),
-        None => condition_holds(event, need, value),
+        Some(rest) => Ok(condition_holds(alloc, event, need, unindented(rest))?.map(
+            |holds| !holds,
+        )),
+        None => condition_holds(alloc, event, need, value),
     }
 }

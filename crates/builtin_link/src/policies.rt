@@ -167,7 +167,7 @@ fn is_switched_off(alloc: Global, line: &[u8]) -> Result<bool, AllocError>
 fn policies_count(alloc: Global, event: &Event<'_>) -> Result<bool, AllocError>
     ensures { IfOk result (λ count. count ≡ policies_count event.now) }
 {
-    match file_at(event, b"cmdline") {
+    match file_at(event, b"cmdline").or(file_at(event, b"cmdline.part")) {
         Some(line) => Ok(!is_switched_off(alloc, line)?),
         None => Ok(true),
     }

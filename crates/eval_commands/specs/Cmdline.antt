@@ -1,10 +1,11 @@
 -- What words on the kernel's command line give a name, as udev looks it up.
-use Rattle.std.specs.Prelude.{ℕ, Bool, false, ◌==◌, if◌then◌else◌, List, [], ◌∷◌, Option, Some, None, codes}
+use Rattle.std.specs.Prelude.{ℕ, Bool, false, ◌==◌, ◌||◌, if◌then◌else◌, is_some, List, [], ◌∷◌, Option, Some, None, codes}
 use Rattle.std.specs.List.{list_any}
 use Rattle.std.specs.Option.{option_or}
 use Rattle.text_bytes.specs.Names.{equals, minus, underscore}
-use Rattle.text_bytes.specs.Texts.{is_empty}
+use Rattle.text_bytes.specs.Texts.{begins_with, following, is_empty, split_once}
 use Rattle.text_bytes.specs.Text.{Text}
+use Rattle.text_tables.specs.Texts.{same_text}
 use Rattle.eval_commands.specs.Words.{udev_words}
 
 -- a byte of a name as it is compared: `-` and `_` are the same
@@ -44,3 +45,16 @@ given_in name words = option_or (last_value name words) (one_if_alone name words
 -- what a command line gives a name; it is split into words as the command of a builtin is
 unfoldable pub cmdline_value : (name line : Text) → Option Text
 cmdline_value name line = given_in name (udev_words line)
+
+-- whether a name ends where this follows it in a word
+abbrev pub ends_name : Option Text → Bool
+ends_name None = false
+ends_name (Some rest) = is_empty rest || begins_with equals rest
+
+-- whether a word is the one that is asked for: by its name, or as a whole if a value is asked for, too
+abbrev pub is_asked : (asked word : Text) → Bool
+is_asked asked word = if is_some (split_once equals asked) then same_text word asked else ends_name (following asked word)
+
+-- whether a command line has the word that a condition of a .link file asks for
+unfoldable pub has_word : (asked line : Text) → Bool
+has_word asked line = list_any (is_asked asked) (udev_words line)

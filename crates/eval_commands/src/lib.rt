@@ -12,7 +12,7 @@ mod unquoted;
 mod words;
 
 pub use builtin::{Builtin, builtin_question};
-pub use cmdline::cmdline_value;
+pub use cmdline::{cmdline_value, has_word};
 pub use hwdb::Hwdb;
 pub use laws::a_modalias_is_looked_up_whatever_device_is_named;
 pub use request::{Request, other_name, request_of};

@@ -22,4 +22,4 @@ pub use lines::{bare, from_start, is_comment, is_continued, stripped};
 pub use lists::{LINK, MATCH, is_list, is_of, last_of, list_of};
 pub use names::is_interface_name;
 pub use settings::{Setting, section_of, unmarked};
-pub use words::{WordKind, words_of};
+pub use words::{WordKind, is_whole, words_of};

@@ -162,7 +162,7 @@ fn split(alloc: Global, kind: WordKind, value: &[u8]) -> Result<Splitting, Alloc
 
 /// Whether a value leaves no quote open, and ends in no backslash that counts for the byte after it.
 #[tactic(auto, unfolding(crate::specs::Words::is_whole))]
-pub(crate) fn is_whole(alloc: Global, kind: WordKind, value: &[u8]) -> Result<bool, AllocError>
+pub fn is_whole(alloc: Global, kind: WordKind, value: &[u8]) -> Result<bool, AllocError>
     ensures { IfOk result (λ whole. whole ≡ is_whole kind value.now) }
 {
     let splitting = split(alloc, kind, value)?;

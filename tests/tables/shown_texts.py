@@ -18,8 +18,8 @@ SIGNS = "a\u00bf2J\u0606\u203d\u203d\u203d\u203d\u2047\\x1B"
 ESCAPED = NAME.replace("\x1b", "\\x1B")
 RULES = "etc/udev/rules.d"
 NETWORK = "etc/systemd/network"
-BLOCK = "C: add\nP: /a\n\n"
-ANSWER = "event add /a\nenv ACTION=add\nenv DEVPATH=/a\n\n"
+BLOCK = "C: add\nP: /a\nU: net\n\n"
+ANSWER = "event add /a\nenv ACTION=add\nenv DEVPATH=/a\nenv SUBSYSTEM=net\n\n"
 NOT_USED = "not used: a line of it or of a drop-in is not understood"
 OTHER_KIND = "a file of the hardware database by its name, which devdry update checks"
 

@@ -23,9 +23,11 @@ def words_of_hwdb(name, block, reported, *commands):
 
 
 def paths_of_test(name, block, *paths):
-    """A case of a file with a rule for each path of TEST: if something is there, it sets the property of its number."""
+    """A case of a file with a rule for each path of TEST: if something is there, it sets the property of its number. None stands for a
+    path at which nothing is, but of which the block does not tell that."""
     rules = ''.join(f'TEST=="{path}", ENV{{A{place}}}="1"\n' for place, (path, _) in enumerate(paths))
-    return name, rules, block, [f'env A{place}=1' for place, (_, is_there) in enumerate(paths) if is_there]
+    notes = [f'note r.rules:{place + 1}: test not made: {path}' for place, (path, is_there) in enumerate(paths) if is_there is None]
+    return name, rules, block, [f'env A{place}=1' for place, (_, is_there) in enumerate(paths) if is_there] + notes
 
 
 # An event of a node of an input device, below a device of HID and one of PCI, with these lines.
@@ -482,7 +484,7 @@ CASES = [
       'TEST!="r/*/x", ENV{D}="1"\n' +
       'TEST=="*/none", ENV{E}="1"\n'),
      STAR,
-     ['env B=1', 'env C=1', 'env D=1']),
+     ['env B=1', 'env C=1', 'env D=1', 'note r.rules:4: test not made: */none']),
     ('TEST of a device of the chain',
      ('TEST=="[usb/usb1]serial", ENV{J}="1"\n' +
       'TEST=="[usb/usb1]", ENV{K}="1"\n' +
@@ -503,15 +505,15 @@ CASES = [
                   ('q/none/', False), ('./none', False)),
     paths_of_test('TEST of paths that lead up', STAR,
                   ('q/a/../b', True), ('q/a/../b/y', True), ('q/b/../a/x', True), ('q/a/..', True), ('..', True), ('../star/model', True),
-                  ('q/a/../c', False), ('q/b/../a/y', False), ('../model', False)),
+                  ('q/a/../c', False), ('q/b/../a/y', False), ('../model', None)),
     paths_of_test('TEST of paths with */ and with components that lead nowhere', STAR,
                   ('q/*/', True), ('*/', True), ('./*/x', True), ('q/*/../b', True), ('q/./*/y', True), ('q//*//y', True), ('q/*', False), ('q/*/none/', False)),
     paths_of_test('TEST of a file where only a folder may be', STAR,
-                  ('model/', False), ('model/.', False), ('q/a/x/', False), ('q/a/x/.', False)),
+                  ('model/', None), ('model/.', None), ('q/a/x/', False), ('q/a/x/.', False)),
     paths_of_test("TEST of paths out of the device's folder", DISK,
                   ('../../serial', True), ('../../../vendor', True), ('..', True), ('../', True), ('../sda', True), ('../sda/size', True),
                   ('../sda/../sda/size', True), ('../../../usb1/serial', True), ('../../block/sda/', True), ('../../../../pci0/vendor', True),
-                  ('../../none', False), ('../none', False), ('../../serial/', False)),
+                  ('../../none', False), ('../none', None), ('../../serial/', None)),
     paths_of_test('TEST of paths in the folder of another device', DISK,
                   ('[usb/usb1]../vendor', True), ('[usb/usb1]/../vendor', True), ('[usb/usb1]./serial', True), ('[usb/usb1]block//', True),
                   ('[usb/usb1]block/sda/size', True), ('[usb/usb1].', True), ('[usb/usb1]..', True), ('[usb/usb1]serial/', False)),

@@ -78,8 +78,9 @@ NOTED = [
     ("a mode that the kernel does not write", 'ENV{A}="1"\n', node("600"), ["env A=1"]),
     ("an attribute that the block has for a link goes first", 'ATTR{device/vendor}=="1", ENV{A}="$attr{device/vendor}"\n',
      VIRTIO.replace("A: size=2048\n", "A: size=2048\nA: device/vendor=1\n"), ["env A=1"]),
-    ("a folder that the block shows has no other attributes", 'ATTR{device/none}!="x", ENV{A}="1"\nENV{B}="$attr{device/vendor}|$attr{queue/none}|"\n',
-     VIRTIO.replace("A: size=2048\n", "A: size=2048\nA: device/model=1\n"), ["env B=||"]),
+    ("a folder that the block shows has no other attributes but those behind the link", 'ATTR{device/none}!="x", ENV{A}="1"\n'
+     'ENV{B}="$attr{device/model}|$attr{device/vendor}|$attr{queue/none}|"\n',
+     VIRTIO.replace("A: size=2048\n", "A: size=2048\nA: device/model=1\n"), ["env B=1|0x1af4||"]),
     ("a folder that the block does not show", 'ATTR{bdi/read_ahead_kb}!="x", ENV{A}="1"\nENV{B}="$attr{bdi/read_ahead_kb}|"\nTEST!="bdi/read_ahead_kb", ENV{C}="1"\n'
      'IMPORT{builtin}="hwdb x$attr{bdi/max_ratio}"\n', VIRTIO,
      ["env B=|", "env C=1", "note r.rules:1: attribute not read: bdi/read_ahead_kb", "note r.rules:3: test not made: bdi/read_ahead_kb",
@@ -124,7 +125,7 @@ MANUAL = [
 ]
 
 WHY = [
-    why("what a block does not tell", ['ATTR{bdi/x}=="1"', 'ATTRS{device/none}=="1"', 'ATTR{device/x}=="1"', 'TEST=="bdi/x"', 'IMPORT{cmdline}=="a"'],
+    why("what a block does not tell", [f'{it}, TAG+="t"' for it in ('ATTR{bdi/x}=="1"', 'ATTRS{device/none}=="1"', 'ATTR{device/x}=="1"', 'TEST=="bdi/x"', 'IMPORT{cmdline}=="a"')],
         ["U: block", "A: size=1", "K: cmdline.part=b"],
         ["env SUBSYSTEM=block", "note r.rules:1: attribute not read: bdi/x", "note r.rules:3: attribute not read: device/x", "note r.rules:4: test not made: bdi/x",
          "note r.rules:5: import not run: cmdline"],

@@ -1,5 +1,5 @@
 -- Notes about a block: what in it udev would have been told otherwise, whatever the rules are. By the manual there are none.
-use Rattle.std.specs.Prelude.{Bool, false, not, ◌&&◌, if◌then◌else◌, nat_eq, List, [], ◌∷◌, ◌++◌, Option, Some, None, codes}
+use Rattle.std.specs.Prelude.{Bool, false, not, ◌&&◌, if◌then◌else◌, nat_eq, List, [], ◌∷◌, Option, Some, None, codes}
 use Rattle.std.specs.Prelude.{flat_map, is_some, unwrap_or}
 use Rattle.std.specs.List.{starts_with}
 use Rattle.text_bytes.specs.Names.{carriage_return}

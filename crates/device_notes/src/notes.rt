@@ -1,7 +1,7 @@
 //! The notes about a block.
-ghost use Rattle.std.specs.Prelude.{◌≡◌, IfOk, option_map};
-ghost use Rattle.device_notes.specs.Notes.{about, begins_with_sys, block_notes, has_gone_attributes, is_behind_commands, is_due};
-ghost use Rattle.device_notes.specs.Notes.{is_filled, is_stored_by_udev, is_unknown_action, udev_notes};
+ghost use Rattle.std.specs.Prelude.{◌≡◌, ◌++◌, IfOk, OnOk, flat_map, option_map};
+ghost use Rattle.device_notes.specs.Notes.{about, begins_with_sys, block_notes, due_note, has_gone_attributes, is_behind_commands};
+ghost use Rattle.device_notes.specs.Notes.{is_due, is_filled, is_stored_by_udev, is_unknown_action, udev_notes};
 
 use crate::kinds::BlockNoteKind;
 use crate::trying::lacks_event;
@@ -113,17 +113,43 @@ fn about<'a>(event: &Event<'a>, kind: BlockNoteKind) -> &'a [u8]
     }
 }
 
+/// Adds the note of a kind, if it is due.
+fn push_due(
+    alloc: Global,
+    event: &Event<'_>,
+    kind: BlockNoteKind,
+    notes: &mut Vec<BlockNote>,
+) -> Result<(), AllocError>
+    ensures { OnOk result (notes.new.items ≡ notes.old.items ++ due_note event.now kind) }
+{
+    if is_due(event, kind) {
+        let word = Bytes::copy_of(alloc, word_of(about(event, kind)))?;
+        notes.push(BlockNote { kind, word })?;
+    }
+    Ok(())
+}
+
+/// Adds those notes of these kinds that are due.
+fn push_each_due(
+    alloc: Global,
+    event: &Event<'_>,
+    kinds: &[BlockNoteKind],
+    notes: &mut Vec<BlockNote>,
+) -> Result<(), AllocError>
+    ensures { OnOk result (notes.new.items ≡ notes.old.items ++ flat_map (due_note event.now) kinds.now) }
+{
+    for kind in kinds {
+        push_due(alloc, event, *kind, notes)?;
+    }
+    Ok(())
+}
+
 /// The notes about a block over which rules are evaluated as by udev.
 fn udev_notes(alloc: Global, event: &Event<'_>) -> Result<Vec<BlockNote>, AllocError>
     ensures { IfOk result (λ notes. notes.items ≡ udev_notes event.now) }
 {
     let mut notes = Vec::new(alloc);
-    for kind in KINDS {
-        if is_due(event, kind) {
-            let word = Bytes::copy_of(alloc, word_of(about(event, kind)))?;
-            notes.push(BlockNote { kind, word })?;
-        }
-    }
+    push_each_due(alloc, event, &KINDS, &mut notes)?;
     Ok(notes)
 }
 

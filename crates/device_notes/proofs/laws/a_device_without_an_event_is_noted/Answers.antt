@@ -1,4 +1,4 @@
-use Rattle.std.proofs.Common.{◌≡◌, ◌≢◌, ℕ, Bool, true, false, cond, List, [], ◌∷◌, refl, ap, ◌∙◌}
+use Rattle.std.proofs.Common.{◌≡◌, ◌≢◌, ℕ, Bool, true, false, cond, [], ◌∷◌, refl, ap, ◌∙◌}
 use Rattle.device_core.specs.Values.{EventValue}
 use Rattle.device_notes.specs.Notes.{note_about, note_if}
 use Rattle.device_notes.specs.Tried.{lacks_event}

@@ -1,4 +1,4 @@
-use Rattle.std.proofs.Common.{◌≡◌, List, [], ◌∷◌, Option, unwrap_or, subst, sym, ap, ◌∙◌, ◌↔◌, ◌≢◌}
+use Rattle.std.proofs.Common.{◌≡◌, [], ◌∷◌, Option, unwrap_or, subst, ap, ◌∙◌, ◌↔◌, ◌≢◌}
 use Rattle.text_bytes.specs.Text.{Text}
 use Rattle.device_notes.specs.Laws.{notes_of}
 use Rattle.device_notes.specs.Notes.{is_behind_commands, note_about, note_if}

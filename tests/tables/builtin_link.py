@@ -43,10 +43,11 @@ def block(given):
 def row(name, files, given, real, own=None):
     """A run over the block of a case, by a rule that imports the builtin."""
     answer = ["done", *(line.replace("note ", "note builtin needs: net_setup_link: ", 1) for line in (real if own is None else own))]
+    gone = [b"note -: attributes of a removed device: " + PATH.encode()] if given.get("action") == "remove" else []
     held = {f"r/{placed(path)}": Link("/dev/null") if text is None else text for path, text in files.items()}
     lines = without_empty(block(given), devdry_lines(answer))
     return Row(name, "events --udev -r r r.rules", {"r.rules": importing("net_setup_link")} | held, input=block(given),
-               output=b"".join(line + b"\n" for line in lines) + b"\n", messages=unsound(name))
+               output=b"".join(line + b"\n" for line in [*lines, *gone]) + b"\n", messages=unsound(name))
 
 
 # A key of [Match] beside what the block says of the machine or the interface, and whether it is met: by `udevadm test-builtin` of 257

@@ -27,7 +27,7 @@ kind_short ReturnAtEnds = omega arith
 kept_short : (text : Text) → length (take 32 text) ≤ 32
 kept_short text = let a = length-take 32 text in omega (arith, a)
 
-one_short : (kind : BlockNoteKind) (text : Text) → length (block_note_line (note_about kind text)) ≤ 168
+one_short : (kind : BlockNoteKind) (text : Text) → length (block_note_line (note_about kind text)) ≤ 172
 unfolding block_note_line
 one_short kind text =
     let a = line_length (codes "note") (codes "-: " ++ text_of kind ++ word_part (take 32 text)) in
@@ -38,12 +38,12 @@ one_short kind text =
     let f = kept_short text in
     omega (arith, a, b, c, d, e, f)
 
-if_short : (is_so : Bool) (kind : BlockNoteKind) (text : Text) → length (flat_map block_note_line (note_if is_so kind text)) ≤ 168
-if_short true kind text = subst (λ (t : Text). length t ≤ 168) (sym (append-nil (block_note_line (note_about kind text)))) (one_short kind text)
+if_short : (is_so : Bool) (kind : BlockNoteKind) (text : Text) → length (flat_map block_note_line (note_if is_so kind text)) ≤ 172
+if_short true kind text = subst (λ (t : Text). length t ≤ 172) (sym (append-nil (block_note_line (note_about kind text)))) (one_short kind text)
 if_short false kind text = omega arith
 
 -- the notes of some kinds
-each_short : (event : EventValue) (ks : List BlockNoteKind) → length (flat_map block_note_line (flat_map (due_note event) ks)) ≤ 168 * length ks
+each_short : (event : EventValue) (ks : List BlockNoteKind) → length (flat_map block_note_line (flat_map (due_note event) ks)) ≤ 172 * length ks
 each_short event [] = omega arith
 each_short event (k ∷ ks) =
     let all : length (flat_map block_note_line (due_note event k ++ flat_map (due_note event) ks))

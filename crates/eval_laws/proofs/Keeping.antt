@@ -192,7 +192,7 @@ given_same name (Some text) s = refl
 
 part_same : (r : Rule) (name : Text) (given : Option Text) (s : Scene) → Same s (from_part r name given s).0
 part_same r name None s = refl
-part_same r name (Some value) s = given_same name (Some value) s
+part_same r name (Some found) s = given_same name (Some found) s
 
 line_same : (r : Rule) (name : Text) (line part : Option Text) (s : Scene) → Same s (from_line r name line part s).0
 line_same r name None part s = part_same r name (option_and_then (cmdline_value name) part) s

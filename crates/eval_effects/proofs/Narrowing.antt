@@ -15,7 +15,6 @@ use Rattle.rule_types.specs.declared.part.Assignment.{Assignment}
 use Rattle.rule_types.specs.declared.part.Change.{Change}
 use Rattle.rule_types.specs.declared.part.Change.TheVariants as change
 use Rattle.rule_types.specs.Rules.{Rule}
-use Rattle.device_core.specs.Values.{EventValue}
 use Rattle.eval_state.specs.declared.scene.Scene.{Scene}
 use Rattle.eval_state.specs.declared.state.State.{State}
 use Rattle.eval_assignments.specs.Steps.{set_step}
@@ -75,16 +74,16 @@ module _ (w : Text) (alike : (x y : Text) → same_text (item_name w x) (item_na
 
     one_set : (ps : List Pair) (n t : Text) → AllThere all ps → flat_map (set_item (pair_items w all)) (pair_items w (with_value ps n t)) ≡ set_item (pair_items w all) (item_name w n, t) ++ []
     one_set [] n t h = refl
-    one_set (p ∷ ps) n t h = by (same_text n p.0) refl
+    one_set (p ∷ ps) n t h = by (same_text n p.0) refl (one_set ps n t h.1)
       where
-        by : (b : Bool) → same_text n p.0 ≡ b
+        by : (b : Bool) → same_text n p.0 ≡ b → flat_map (set_item (pair_items w all)) (pair_items w (with_value ps n t)) ≡ set_item (pair_items w all) (item_name w n, t) ++ []
             → flat_map (set_item (pair_items w all)) (pair_items w (cond b ((p.0, t) ∷ ps) (p ∷ with_value ps n t))) ≡ set_item (pair_items w all) (item_name w n, t) ++ []
-        by true e =
+        by true e more =
             ap (λ rest. set_item (pair_items w all) (item_name w p.0, t) ++ rest) (none_set ps h.1)
             ∙ ap (λ x. set_item (pair_items w all) (item_name w x, t) ++ []) (sym (is_same n p.0 e))
-        by false e =
+        by false e more =
             let there : is_value (value_of (pair_items w all) (item_name w p.0)) p.1 ≡ true = ap (λ v. is_value v p.1) (value_at all p.0 ∙ h.0) ∙ same_self p.1 in
-            ap (λ b. cond b [] (set_text (item_name w p.0, p.1) ∷ []) ++ flat_map (set_item (pair_items w all)) (pair_items w (with_value ps n t))) there ∙ one_set ps n t h.1
+            ap (λ b. cond b [] (set_text (item_name w p.0, p.1) ∷ []) ++ flat_map (set_item (pair_items w all)) (pair_items w (with_value ps n t))) there ∙ more
 
     none_removed : (ps : List Pair) → ((x : Text) → is_some (value_of ps x) ≡ true → is_some (value_of all x) ≡ true) → (qs : List Pair) → AllThere ps qs
         → flat_map (removed_item (pair_items w all)) (pair_items w qs) ≡ []
@@ -137,7 +136,7 @@ module _ (w : Text) (alike : (x y : Text) → same_text (item_name w x) (item_na
   written_tells (Some n) was now once (inl e) =
       ap (λ ps. item_changes (written_item w (Some n) was) (written_item w (Some n) ps)) e
       ∙ given_once (value_of was n) n ∙ sym (unchanged was once) ∙ ap (λ ps. item_changes (pair_items w was) (pair_items w ps)) (sym e)
-  written_tells written was now once (inr (n, (t, (is, e)))) =
+  written_tells written was now once (inr (n, t, is, e)) =
       ap (λ o. item_changes (written_item w o was) (written_item w o now)) is
       ∙ ap (λ ps. item_changes (given_item (item_name w n) (value_of was n)) (given_item (item_name w n) (value_of ps n))) e
       ∙ ap (λ o. item_changes (given_item (item_name w n) (value_of was n)) (given_item (item_name w n) o)) (set_here was n t)
@@ -168,10 +167,10 @@ module _ (r : Rule) (s : Scene) (a : Assignment) (f : Fronts) (attrs : AreOnce (
   items_tell (change.Run braces template) e = refl
   items_tell (change.Text (target.Attr name) template) e =
       attributes_tell s.state.event.profile name s.state s.attrs (set_step r s a).attrs attrs (attributes_written r s a name template e)
-      ∙ ap (λ (event : EventValue). item_changes (written_items s.state.event.profile (codes "attr") name s.attrs) (written_items event.profile (codes "attr") name (set_step r s a).attrs)) (sym event_same)
+      ∙ ap (λ (event : _). item_changes (written_items s.state.event.profile (codes "attr") name s.attrs) (written_items event.profile (codes "attr") name (set_step r s a).attrs)) (sym event_same)
   items_tell (change.Text (target.Sysctl name) template) e =
       parameters_tell s.state.event.profile name s.state s.sysctls (set_step r s a).sysctls sysctls (parameters_written r s a name template e)
-      ∙ ap (λ (event : EventValue). item_changes (written_items s.state.event.profile (codes "sysctl") name s.sysctls) (written_items event.profile (codes "sysctl") name (set_step r s a).sysctls)) (sym event_same)
+      ∙ ap (λ (event : _). item_changes (written_items s.state.event.profile (codes "sysctl") name s.sysctls) (written_items event.profile (codes "sysctl") name (set_step r s a).sysctls)) (sym event_same)
   items_tell (change.Text about template) e = refl
 
   -- what is said by what is written is what is said

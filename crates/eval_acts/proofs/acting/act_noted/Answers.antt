@@ -1,4 +1,4 @@
-use Rattle.std.proofs.Common.{◌≡◌, Bool, Option, Result, Ok, Err, OnErr, ap, ◌∙◌}
+use Rattle.std.proofs.Common.{Bool, Option, Result, Ok, Err, OnErr, ap, ◌∙◌}
 use Rattle.eval_state.specs.declared.scene.Scene.{Scene}
 use Rattle.eval_acts.proofs.Staying.{performed_stays}
 use Rattle.eval_acts.proofs.acting.act_noted.Goals as goal

@@ -1,15 +1,13 @@
 -- What an assignment to an attribute or a kernel parameter writes.
-use Rattle.std.proofs.Common.{◌≡◌, ◌⊎◌, inl, inr, ℕ, zero, suc, Bool, true, false, cond, ◌&&◌, length, nat_lt, Option, Some, None, unwrap_or, refl, ap, sym, ◌∙◌, subst}
+use Rattle.std.proofs.Common.{◌≡◌, inl, inr, ℕ, zero, suc, Bool, true, false, cond, ◌&&◌, length, nat_lt, Option, Some, None, unwrap_or, refl, ap, sym, subst}
 use Rattle.text_bytes.specs.declared.profile.Profile.{Profile}
 use Rattle.text_bytes.specs.declared.profile.Profile.TheVariants.{Manual, Udev}
 use Rattle.text_bytes.specs.Text.{Text}
-use Rattle.text_tables.specs.Pairs.{Pair, with_value}
+use Rattle.text_tables.specs.Pairs.{with_value}
 use Rattle.rule_templates.specs.Template.{Parts as Template}
-use Rattle.rule_types.specs.Written.{attribute_of_target, key_of_target}
 use Rattle.rule_types.specs.declared.keys.Key.TheVariants as key
 use Rattle.rule_types.specs.declared.roles.AssignOperator.{AssignOperator}
 use Rattle.rule_types.specs.declared.roles.AssignOperator.TheVariants.{Assign, Add, Remove, AssignFinal}
-use Rattle.rule_types.specs.declared.roles.Target.{Target}
 use Rattle.rule_types.specs.declared.roles.Target.TheVariants as target
 use Rattle.rule_types.specs.declared.part.Assignment.{Assignment}
 use Rattle.rule_types.specs.declared.part.Change.{Change}
@@ -20,14 +18,11 @@ use Rattle.eval_rendering.specs.Bounds.{most_path_bytes, sysfs_path, within}
 use Rattle.eval_rendering.specs.Rendering.{rendered_as_udev}
 use Rattle.eval_rendering.specs.declared.rendered.Rendered.{Rendered}
 use Rattle.eval_rendering.specs.declared.rendered.Rendered.TheVariants as rendered
-use Rattle.eval_state.specs.Files.{starred}
 use Rattle.eval_state.specs.Named.{NamedValue, named, named_place}
 use Rattle.eval_state.specs.Scenes.{noted_key}
-use Rattle.eval_state.specs.declared.finals.FinalKey.{FinalKey}
 use Rattle.eval_state.specs.declared.note_kind.NoteKind.TheVariants.{NoDeviceNumber, TextTooLong}
 use Rattle.eval_state.specs.declared.scene.Scene.{Scene}
-use Rattle.eval_assignments.specs.Assigning.{assigned}
-use Rattle.eval_assignments.specs.Attributes.{attribute_put, attribute_set, attribute_set_at, attribute_set_by, found_above, own_attribute_set}
+use Rattle.eval_assignments.specs.Attributes.{attribute_put, attribute_set, attribute_set_at, attribute_set_by}
 use Rattle.eval_assignments.specs.Escapes.{escape_of}
 use Rattle.eval_assignments.specs.Finality.{final_key, finally, is_settled}
 use Rattle.eval_assignments.specs.Inner.{given_by}

@@ -1,5 +1,5 @@
 -- What an assignment to an attribute or a parameter changed is told by the one that it writes.
-use Rattle.std.proofs.Common.{◌≡◌, ◌⊎◌, inl, inr, Bool, true, false, cond, List, [], ◌∷◌, ◌++◌, length, flat_map, Option, Some, None, is_some, codes, slice_get, refl, ap, sym, ◌∙◌, subst}
+use Rattle.std.proofs.Common.{◌≡◌, inl, inr, Bool, true, false, cond, List, [], ◌∷◌, ◌++◌, flat_map, Option, Some, None, is_some, codes, slice_get, refl, ap, sym, ◌∙◌}
 use Rattle.std.specs.Cmp.Lexicographic.{bytes_decides}
 use Rattle.std.specs.List.{AllByRecursion, IsDistinct}
 use Rattle.text_bytes.specs.declared.profile.Profile.{Profile}
@@ -8,25 +8,25 @@ use Rattle.text_bytes.specs.Text.{Text}
 use Rattle.text_tables.specs.Texts.{AreOnce, same_text}
 use Rattle.text_tables.specs.Pairs.{Pair, names, value_of, with_value}
 use Rattle.text_tables.proofs.Found.{value_set}
-use Rattle.rule_templates.specs.Template.{Parts as Template}
-use Rattle.rule_types.specs.declared.roles.Target.{Target}
 use Rattle.rule_types.specs.declared.roles.Target.TheVariants as target
 use Rattle.rule_types.specs.declared.part.Assignment.{Assignment}
 use Rattle.rule_types.specs.declared.part.Change.{Change}
 use Rattle.rule_types.specs.declared.part.Change.TheVariants as change
 use Rattle.rule_types.specs.Rules.{Rule}
-use Rattle.device_core.specs.Values.{EventValue}
+use Rattle.eval_state.specs.declared.finals.FinalKey.{FinalKey}
 use Rattle.eval_state.specs.declared.scene.Scene.{Scene}
 use Rattle.eval_state.specs.declared.state.State.{State}
+use Rattle.eval_assignments.specs.Finality.{final_key}
 use Rattle.eval_assignments.specs.Steps.{set_step}
 use Rattle.eval_assignments.specs.Written.{Writes, written_name}
 use Rattle.eval_assignments.proofs.Staying.{set_stays}
 use Rattle.eval_assignments.proofs.Writing.{attributes_written, parameters_written}
-use Rattle.eval_effects.specs.Changes.{changes, item_changes, made_changes, removed_item, removed_text, run_changes, set_item, set_text, snapshot}
-use Rattle.eval_effects.specs.Effects.{changed_text, made_text, said_left}
+use Rattle.eval_effects.specs.Changes.{Snapshot, item_changes, made_changes, removed_item, removed_text, run_changes, set_item, set_text, snapshot}
+use Rattle.eval_effects.specs.Effects.{changed_text, effect, effect_by, made_text, said_left, settled_key}
 use Rattle.eval_effects.specs.Items.{given_item, is_value, item_name, pair_items}
 use Rattle.eval_effects.specs.Narrow.{found_about, found_snapshot, found_text, written_by, written_item}
-use Rattle.eval_effects.specs.Scope.{items_about, written_items}
+use Rattle.eval_effects.specs.Scope.{fronts, items_about, written_items}
+use Rattle.eval_effects.specs.Since.{Since}
 use Rattle.eval_effects.specs.declared.scope.Fronts.{Fronts}
 
 is_same : (a b : Text) → same_text a b ≡ true → a ≡ b
@@ -75,16 +75,16 @@ module _ (w : Text) (alike : (x y : Text) → same_text (item_name w x) (item_na
 
     one_set : (ps : List Pair) (n t : Text) → AllThere all ps → flat_map (set_item (pair_items w all)) (pair_items w (with_value ps n t)) ≡ set_item (pair_items w all) (item_name w n, t) ++ []
     one_set [] n t h = refl
-    one_set (p ∷ ps) n t h = by (same_text n p.0) refl
+    one_set (p ∷ ps) n t h = by (same_text n p.0) refl (one_set ps n t h.1)
       where
-        by : (b : Bool) → same_text n p.0 ≡ b
+        by : (b : Bool) → same_text n p.0 ≡ b → flat_map (set_item (pair_items w all)) (pair_items w (with_value ps n t)) ≡ set_item (pair_items w all) (item_name w n, t) ++ []
             → flat_map (set_item (pair_items w all)) (pair_items w (cond b ((p.0, t) ∷ ps) (p ∷ with_value ps n t))) ≡ set_item (pair_items w all) (item_name w n, t) ++ []
-        by true e =
+        by true e more =
             ap (λ rest. set_item (pair_items w all) (item_name w p.0, t) ++ rest) (none_set ps h.1)
             ∙ ap (λ x. set_item (pair_items w all) (item_name w x, t) ++ []) (sym (is_same n p.0 e))
-        by false e =
+        by false e more =
             let there : is_value (value_of (pair_items w all) (item_name w p.0)) p.1 ≡ true = ap (λ v. is_value v p.1) (value_at all p.0 ∙ h.0) ∙ same_self p.1 in
-            ap (λ b. cond b [] (set_text (item_name w p.0, p.1) ∷ []) ++ flat_map (set_item (pair_items w all)) (pair_items w (with_value ps n t))) there ∙ one_set ps n t h.1
+            ap (λ b. cond b [] (set_text (item_name w p.0, p.1) ∷ []) ++ flat_map (set_item (pair_items w all)) (pair_items w (with_value ps n t))) there ∙ more
 
     none_removed : (ps : List Pair) → ((x : Text) → is_some (value_of ps x) ≡ true → is_some (value_of all x) ≡ true) → (qs : List Pair) → AllThere ps qs
         → flat_map (removed_item (pair_items w all)) (pair_items w qs) ≡ []
@@ -137,7 +137,7 @@ module _ (w : Text) (alike : (x y : Text) → same_text (item_name w x) (item_na
   written_tells (Some n) was now once (inl e) =
       ap (λ ps. item_changes (written_item w (Some n) was) (written_item w (Some n) ps)) e
       ∙ given_once (value_of was n) n ∙ sym (unchanged was once) ∙ ap (λ ps. item_changes (pair_items w was) (pair_items w ps)) (sym e)
-  written_tells written was now once (inr (n, (t, (is, e)))) =
+  written_tells written was now once (inr (n, t, is, e)) =
       ap (λ o. item_changes (written_item w o was) (written_item w o now)) is
       ∙ ap (λ ps. item_changes (given_item (item_name w n) (value_of was n)) (given_item (item_name w n) (value_of ps n))) e
       ∙ ap (λ o. item_changes (given_item (item_name w n) (value_of was n)) (given_item (item_name w n) o)) (set_here was n t)
@@ -168,10 +168,10 @@ module _ (r : Rule) (s : Scene) (a : Assignment) (f : Fronts) (attrs : AreOnce (
   items_tell (change.Run braces template) e = refl
   items_tell (change.Text (target.Attr name) template) e =
       attributes_tell s.state.event.profile name s.state s.attrs (set_step r s a).attrs attrs (attributes_written r s a name template e)
-      ∙ ap (λ (event : EventValue). item_changes (written_items s.state.event.profile (codes "attr") name s.attrs) (written_items event.profile (codes "attr") name (set_step r s a).attrs)) (sym event_same)
+      ∙ ap (λ (event : _). item_changes (written_items s.state.event.profile (codes "attr") name s.attrs) (written_items event.profile (codes "attr") name (set_step r s a).attrs)) (sym event_same)
   items_tell (change.Text (target.Sysctl name) template) e =
       parameters_tell s.state.event.profile name s.state s.sysctls (set_step r s a).sysctls sysctls (parameters_written r s a name template e)
-      ∙ ap (λ (event : EventValue). item_changes (written_items s.state.event.profile (codes "sysctl") name s.sysctls) (written_items event.profile (codes "sysctl") name (set_step r s a).sysctls)) (sym event_same)
+      ∙ ap (λ (event : _). item_changes (written_items s.state.event.profile (codes "sysctl") name s.sysctls) (written_items event.profile (codes "sysctl") name (set_step r s a).sysctls)) (sym event_same)
   items_tell (change.Text about template) e = refl
 
   -- what is said by what is written is what is said
@@ -183,3 +183,17 @@ module _ (r : Rule) (s : Scene) (a : Assignment) (f : Fronts) (attrs : AreOnce (
       let was = snapshot a.change f s in
       let now = snapshot a.change f t in
       ap (λ items. changed_text a.change ((items ++ run_changes was.runs now.runs ++ made_changes was.made now.made) ++ said_left a.change t (slice_get t.notes was.notes))) (items_tell a.change refl)
+
+-- what an assignment does is said by what is written
+pub effect_told : (since : Since) (r : Rule) (s t : Scene) (a : Assignment) (written : Option Text) (f : Fronts) (was : Snapshot) → AreOnce (names s.attrs) → AreOnce (names s.sysctls)
+    → settled_key s.finals (final_key s.state.event.profile a.change) ≡ None → written ≡ written_by a.change s.state → f ≡ fronts a.operator s → was ≡ found_snapshot written a.change f s
+    → t ≡ set_step r s a → found_text written a.change f was t ≡ effect since r s a
+unfolding effect
+effect_told since r s t a written f was attrs sysctls none by_written by_fronts by_was by_step =
+    let g : Fronts = fronts a.operator s in
+    ap (λ (v : Snapshot). found_text written a.change f v t) by_was
+    ∙ ap (λ (w : Option Text). found_text w a.change f (found_snapshot w a.change f s) t) by_written
+    ∙ ap (λ (h : Fronts). found_text (written_by a.change s.state) a.change h (found_snapshot (written_by a.change s.state) a.change h s) t) by_fronts
+    ∙ ap (λ (u : Scene). found_text (written_by a.change s.state) a.change g (found_snapshot (written_by a.change s.state) a.change g s) u) by_step
+    ∙ said_by_written r s a g attrs sysctls
+    ∙ sym (ap (λ (key : Option FinalKey). effect_by since r a.change key g (snapshot a.change g s) (set_step r s a)) none)

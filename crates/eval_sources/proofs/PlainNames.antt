@@ -1,13 +1,13 @@
 -- A text without a sign is rendered alike whatever the state.
-use Rattle.std.proofs.Common.{◌≡◌, ℕ, zero, suc, Bool, true, false, cond, ◌||◌, ◌==◌, List, [], ◌∷◌, ◌++◌, flat_map, refl, ap, sym, ◌∙◌, subst}
-use Rattle.std.specs.List.{AllByRecursion, list_any}
+use Rattle.std.proofs.Common.{◌≡◌, ℕ, zero, suc, Bool, true, false, cond, ◌||◌, ◌==◌, List, [], ◌∷◌, ◌++◌, drop, flat_map, refl, ap, sym, ◌∙◌, subst}
+use Rattle.std.specs.List.{AllByRecursion, list_any, prefix_len}
 use Rattle.text_bytes.specs.declared.profile.Profile.{Profile}
 use Rattle.text_bytes.specs.declared.profile.Profile.TheVariants.{Manual, Udev}
 use Rattle.text_bytes.specs.Names.{dollar, percent}
 use Rattle.text_bytes.specs.Text.{Text}
 use Rattle.text_bytes.specs.Texts.{skip_while}
 use Rattle.rule_templates.specs.Substituted.{has_sign}
-use Rattle.rule_templates.specs.Reading.{FirstPiece, asked_as, first_as, is_no_sign, kept, left_of, left_within, named, plain_first, substituted_by, udev_first, with_kept}
+use Rattle.rule_templates.specs.Reading.{FirstPiece, is_no_sign, kept, left_of, left_within, plain_first, udev_first, with_kept}
 use Rattle.rule_templates.specs.declared.piece.Piece.{Piece}
 use Rattle.rule_templates.specs.declared.piece.Piece.TheVariants as piece
 use Rattle.eval_state.specs.declared.state.State.{State}
@@ -26,19 +26,23 @@ neither false b h = (refl, h)
 abbrev IsAlike : Piece → Type 0
 IsAlike p = (u v : State) → (piece_text u p ≡ piece_text v p) × (is_long u p ≡ false)
 
+none_dropped : (n : ℕ) (t : Text) → has_sign t ≡ false → has_sign (drop n t) ≡ false
+none_dropped zero [] h = h
+none_dropped zero (b ∷ t) h = h
+none_dropped (suc n) [] h = h
+none_dropped (suc n) (b ∷ t) h = none_dropped n t (neither (b == dollar || b == percent) (has_sign t) h).1
+
 none_later : (t : Text) → has_sign t ≡ false → has_sign (skip_while is_no_sign t) ≡ false
-none_later [] h = refl
-none_later (b ∷ t) h = by (is_no_sign b)
-  where
-    by : (x : Bool) → has_sign (cond x (skip_while is_no_sign t) (b ∷ t)) ≡ false
-    by true = none_later t ((neither (b == dollar || b == percent) (has_sign t) h).1)
-    by false = h
+none_later t h = none_dropped (prefix_len is_no_sign t) t h
+
+no_sign : (a b : Bool) (x y z : FirstPiece) → (a || b) ≡ false → cond a x (cond b y z) ≡ z
+no_sign true b x y z h = absurd (cc)
+no_sign false true x y z h = absurd (cc)
+no_sign false false x y z h = refl
 
 plain_here : (b : ℕ) (t : Text) → (b == dollar || b == percent) ≡ false → udev_first b t ≡ plain_first b t
 unfolding udev_first
-plain_here b t h =
-    let none = neither (b == dollar) (b == percent) h in
-    ap (λ x. cond x _ (cond (b == percent) _ (plain_first b t))) none.0 ∙ ap (λ x. cond x _ (plain_first b t)) none.1
+plain_here b t h = no_sign (b == dollar) (b == percent) _ _ (plain_first b t) h
 
 left_alike : (n : ℕ) (t : Text) → has_sign t ≡ false → AllByRecursion IsAlike (left_within n t)
 left_alike zero t h = tt

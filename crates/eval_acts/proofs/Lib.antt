@@ -3,3 +3,4 @@ pub mod Plain
 pub mod Runs
 pub mod Setting
 pub mod Nothing
+pub mod Staying

@@ -1,5 +1,5 @@
 -- What an assignment to an attribute or a parameter changed is told by the one that it writes.
-use Rattle.std.proofs.Common.{◌≡◌, ◌⊎◌, inl, inr, Bool, true, false, cond, List, [], ◌∷◌, ◌++◌, length, flat_map, Option, Some, None, is_some, codes, slice_get, refl, ap, sym, ◌∙◌, subst}
+use Rattle.std.proofs.Common.{◌≡◌, inl, inr, Bool, true, false, cond, List, [], ◌∷◌, ◌++◌, flat_map, Option, Some, None, is_some, codes, slice_get, refl, ap, sym, ◌∙◌}
 use Rattle.std.specs.Cmp.Lexicographic.{bytes_decides}
 use Rattle.std.specs.List.{AllByRecursion, IsDistinct}
 use Rattle.text_bytes.specs.declared.profile.Profile.{Profile}
@@ -8,24 +8,25 @@ use Rattle.text_bytes.specs.Text.{Text}
 use Rattle.text_tables.specs.Texts.{AreOnce, same_text}
 use Rattle.text_tables.specs.Pairs.{Pair, names, value_of, with_value}
 use Rattle.text_tables.proofs.Found.{value_set}
-use Rattle.rule_templates.specs.Template.{Parts as Template}
-use Rattle.rule_types.specs.declared.roles.Target.{Target}
 use Rattle.rule_types.specs.declared.roles.Target.TheVariants as target
 use Rattle.rule_types.specs.declared.part.Assignment.{Assignment}
 use Rattle.rule_types.specs.declared.part.Change.{Change}
 use Rattle.rule_types.specs.declared.part.Change.TheVariants as change
 use Rattle.rule_types.specs.Rules.{Rule}
+use Rattle.eval_state.specs.declared.finals.FinalKey.{FinalKey}
 use Rattle.eval_state.specs.declared.scene.Scene.{Scene}
 use Rattle.eval_state.specs.declared.state.State.{State}
+use Rattle.eval_assignments.specs.Finality.{final_key}
 use Rattle.eval_assignments.specs.Steps.{set_step}
 use Rattle.eval_assignments.specs.Written.{Writes, written_name}
 use Rattle.eval_assignments.proofs.Staying.{set_stays}
 use Rattle.eval_assignments.proofs.Writing.{attributes_written, parameters_written}
-use Rattle.eval_effects.specs.Changes.{changes, item_changes, made_changes, removed_item, removed_text, run_changes, set_item, set_text, snapshot}
-use Rattle.eval_effects.specs.Effects.{changed_text, made_text, said_left}
+use Rattle.eval_effects.specs.Changes.{Snapshot, item_changes, made_changes, removed_item, removed_text, run_changes, set_item, set_text, snapshot}
+use Rattle.eval_effects.specs.Effects.{changed_text, effect, effect_by, made_text, said_left, settled_key}
 use Rattle.eval_effects.specs.Items.{given_item, is_value, item_name, pair_items}
 use Rattle.eval_effects.specs.Narrow.{found_about, found_snapshot, found_text, written_by, written_item}
-use Rattle.eval_effects.specs.Scope.{items_about, written_items}
+use Rattle.eval_effects.specs.Scope.{fronts, items_about, written_items}
+use Rattle.eval_effects.specs.Since.{Since}
 use Rattle.eval_effects.specs.declared.scope.Fronts.{Fronts}
 
 is_same : (a b : Text) → same_text a b ≡ true → a ≡ b
@@ -182,3 +183,17 @@ module _ (r : Rule) (s : Scene) (a : Assignment) (f : Fronts) (attrs : AreOnce (
       let was = snapshot a.change f s in
       let now = snapshot a.change f t in
       ap (λ items. changed_text a.change ((items ++ run_changes was.runs now.runs ++ made_changes was.made now.made) ++ said_left a.change t (slice_get t.notes was.notes))) (items_tell a.change refl)
+
+-- what an assignment does is said by what is written
+pub effect_told : (since : Since) (r : Rule) (s t : Scene) (a : Assignment) (written : Option Text) (f : Fronts) (was : Snapshot) → AreOnce (names s.attrs) → AreOnce (names s.sysctls)
+    → settled_key s.finals (final_key s.state.event.profile a.change) ≡ None → written ≡ written_by a.change s.state → f ≡ fronts a.operator s → was ≡ found_snapshot written a.change f s
+    → t ≡ set_step r s a → found_text written a.change f was t ≡ effect since r s a
+unfolding effect
+effect_told since r s t a written f was attrs sysctls none by_written by_fronts by_was by_step =
+    let g : Fronts = fronts a.operator s in
+    ap (λ (v : Snapshot). found_text written a.change f v t) by_was
+    ∙ ap (λ (w : Option Text). found_text w a.change f (found_snapshot w a.change f s) t) by_written
+    ∙ ap (λ (h : Fronts). found_text (written_by a.change s.state) a.change h (found_snapshot (written_by a.change s.state) a.change h s) t) by_fronts
+    ∙ ap (λ (u : Scene). found_text (written_by a.change s.state) a.change g (found_snapshot (written_by a.change s.state) a.change g s) u) by_step
+    ∙ said_by_written r s a g attrs sysctls
+    ∙ sym (ap (λ (key : Option FinalKey). effect_by since r a.change key g (snapshot a.change g s) (set_step r s a)) none)

@@ -32,8 +32,7 @@ use Rattle.eval_rules.specs.Idle.{is_idle_by}
 use Rattle.eval_rules.specs.Jumps.{is_passed, run, sought_after}
 use Rattle.eval_rules.specs.Outcomes.{late_note, late_notes, outcome, outcome_of, run_text}
 use Rattle.eval_rules.specs.Steps.{Went, apply, before_sets, if_proceeding, only_noted, result_step, set_all, steps, walk}
-use Rattle.eval_acts.proofs.Staying.{act_stays}
-use Rattle.eval_rules.proofs.Staying.{event_stays, tried_stays}
+use Rattle.eval_rules.proofs.Staying.{act_stays, event_stays, tried_stays}
 use Rattle.eval_courses.specs.Courses.{reports_if_proceeding, searched, walk_reports}
 use Rattle.eval_courses.specs.Questions.{act_asks, acts_ask, import_asks, rule_asks, rules_ask}
 use Rattle.engine_laws.specs.Noted.{is_no_answer}

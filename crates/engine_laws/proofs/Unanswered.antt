@@ -29,8 +29,7 @@ use Rattle.eval_assignments.proofs.Staying.{Stays}
 use Rattle.eval_rules.specs.Idle.{act_kind_counts}
 use Rattle.eval_rules.specs.Jumps.{is_passed, sought_after}
 use Rattle.eval_rules.specs.Steps.{Went, apply, if_proceeding, plain_step, search, walk}
-use Rattle.eval_acts.proofs.Staying.{act_stays}
-use Rattle.eval_rules.proofs.Staying.{event_stays, reached_stays}
+use Rattle.eval_rules.proofs.Staying.{act_stays, event_stays, reached_stays}
 use Rattle.eval_courses.specs.Courses.{reports_if_proceeding, searched, walk_reports}
 use Rattle.eval_commands.specs.Builtins.{builtin, builtin_question}
 use Rattle.eval_commands.specs.declared.builtin.Builtin.{Builtin}

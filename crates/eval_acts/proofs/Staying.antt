@@ -14,7 +14,6 @@ use Rattle.builtin_knowledge.specs.declared.root_files.RootFile.{RootFile}
 use Rattle.builtin_knowledge.specs.declared.root_files.RootFile.TheVariants.{Absent, Read}
 use Rattle.device_core.specs.Values.{AnswerValue, DeviceValue}
 use Rattle.rule_templates.specs.Template.{Parts}
-use Rattle.rule_types.specs.declared.part.Act.{Act}
 use Rattle.rule_types.specs.declared.part.ActKind.{ActKind}
 use Rattle.rule_types.specs.declared.part.ActKind.TheVariants as act_kind
 use Rattle.rule_types.specs.declared.part.Import.{Import}
@@ -39,7 +38,7 @@ use Rattle.eval_state.specs.Scenes.{noted, with_env}
 use Rattle.eval_state.specs.declared.note_kind.NoteKind.{NoteKind}
 use Rattle.eval_state.specs.declared.note_kind.NoteKind.TheVariants.{BuiltinNotRun, NoAnswer, TestNotMade, TextTooLong}
 use Rattle.eval_state.specs.declared.scene.Scene.{Scene}
-use Rattle.eval_acts.specs.Acts.{act_step, command_reached, from_parent_by, import_reached, imported, on_text, performed, too_long_noted}
+use Rattle.eval_acts.specs.Acts.{command_reached, from_parent_by, import_reached, imported, on_text, performed, too_long_noted}
 use Rattle.eval_acts.specs.BuiltinRuns.{looked_up, most_set, needs_noted, outcome_set, outcome_taken, path_id_run, properties_size, usb_id_run, with_maker}
 use Rattle.eval_acts.specs.RootImports.{file_properties, from_file, from_found}
 use Rattle.eval_acts.specs.Stored.{from_stored, is_stored_known, stored_value}
@@ -56,8 +55,6 @@ Stays s t = t.state.event ≡ s.state.event
 either : (s : Scene) (c : Bool) (x y : Scene × Bool) → Stays s x.0 → Stays s y.0 → Stays s (cond c x y).0
 either s true x y h k = h
 either s false x y h k = k
-
--- ---- what acts
 
 text_stays : (act : Text → Scene → Scene × Bool) → ((t : Text) (s : Scene) → Stays s (act t s).0) → (text : Rendered) (s : Scene) → Stays s (on_text act text s).0
 text_stays act h (rendered.Text t) s = h t s
@@ -182,17 +179,14 @@ reached_import_stays : (p : Profile) (r : Rule) (i : Import) (s : Scene) → Sta
 reached_import_stays p r (import.Builtin t) s = command_stays p r t s
 reached_import_stays p r i s = refl
 
+-- what an act does
 pub performed_stays : (known : Known) (r : Rule) (d : ActKind) (s : Scene) → Stays s (performed known r d s).0
 performed_stays known r (act_kind.Test mask t) s = text_stays (tested r mask) (tested_stays r mask) _ s
 performed_stays known r (act_kind.Program t) s = text_stays (answered_by_block r) (λ c u. answered_stays r c (value_of u.state.event.programs c) u) _ (with_result [] s)
 performed_stays known r (act_kind.Import i) s =
     imported_stays s.state.event.profile known r i (import_reached s.state.event.profile r i s) ∙ reached_import_stays s.state.event.profile r i s
 
-late_stays : (r : Rule) (d : ActKind) (done : Option Bool) (s t : Scene) → Stays s t → Stays s (too_long_noted r d done t)
+-- a note on its text
+pub late_stays : (r : Rule) (d : ActKind) (done : Option Bool) (s t : Scene) → Stays s t → Stays s (too_long_noted r d done t)
 late_stays r d None s t h = h
 late_stays r d (Some done) s t h = h
-
--- an act
-pub act_stays : (known : Known) (r : Rule) (act : Act) (s : Scene) → Stays s (act_step known r act s).0
-unfolding act_step
-act_stays known r act s = late_stays r act.kind (performed known r act.kind s).1 s (performed known r act.kind s).0 (performed_stays known r act.kind s)

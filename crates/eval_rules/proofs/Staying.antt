@@ -1,67 +1,34 @@
 -- What an event says of itself stays, whatever rules do.
-use Rattle.std.proofs.Common.{◌==◌, ◌||◌, ℕ, Bool, true, false, cond, List, [], ◌∷◌, length, Option, Some, None, is_some, refl, nat_le, codes, ◌∙◌}
-use Rattle.std.specs.Option.{option_and_then}
+use Rattle.std.proofs.Common.{Bool, true, false, cond, List, [], ◌∷◌, refl, ◌∙◌}
 use Rattle.std.specs.List.{fold}
-use Rattle.text_bytes.specs.Names.{slash}
-use Rattle.text_bytes.specs.Texts.{begins_with}
-use Rattle.text_bytes.specs.declared.profile.Profile.{Profile}
-use Rattle.text_bytes.specs.declared.profile.Profile.TheVariants.{Manual, Udev}
-use Rattle.text_core.specs.Fnmatch.{fnmatch_items}
-use Rattle.text_core.specs.declared.reading.Reading.TheVariants.{Exact}
-use Rattle.text_bytes.specs.Text.{Text}
-use Rattle.text_tables.specs.Pairs.{Pair, value_of}
 use Rattle.builtin_knowledge.specs.Knowledge.{Known}
-use Rattle.builtin_knowledge.specs.declared.root_files.RootFile.{RootFile}
-use Rattle.builtin_knowledge.specs.declared.root_files.RootFile.TheVariants.{Absent, Read}
-use Rattle.device_core.specs.Values.{AnswerValue, DeviceValue}
-use Rattle.rule_templates.specs.Template.{Parts}
 use Rattle.rule_types.specs.declared.roles.PlainKey.{PlainKey}
 use Rattle.rule_types.specs.declared.roles.PlainKey.TheVariants as plain
 use Rattle.rule_types.specs.declared.part.Act.{Act}
 use Rattle.rule_types.specs.declared.part.Assignment.{Assignment}
 use Rattle.rule_types.specs.declared.part.Comparison.{Comparison}
-use Rattle.rule_types.specs.declared.part.ActKind.{ActKind}
-use Rattle.rule_types.specs.declared.part.ActKind.TheVariants as act_kind
-use Rattle.rule_types.specs.declared.part.Import.{Import}
-use Rattle.rule_types.specs.declared.part.Import.TheVariants as import
 use Rattle.rule_types.specs.declared.part.PlainMatch.{PlainMatch}
 use Rattle.rule_types.specs.declared.part.UpMatch.{UpMatch}
-use Rattle.rule_types.specs.declared.types.ImportType.TheVariants.{Db, File}
 use Rattle.rule_types.specs.Rules.{Rule}
-use Rattle.eval_rendering.specs.declared.rendered.Rendered.{Rendered}
-use Rattle.eval_rendering.specs.declared.rendered.Rendered.TheVariants as rendered
-use Rattle.builtin_devices.specs.Outcomes.{OutcomeValue}
-use Rattle.rule_types.specs.Builtins.{builtin_name}
-use Rattle.rule_types.specs.declared.builtins.Builtin.TheVariants.{InputId, NetId, NetSetupLink, PathId, UsbId}
-use Rattle.eval_commands.specs.Builtins.{builtin_question}
-use Rattle.eval_commands.specs.Cmdline.{cmdline_value}
-use Rattle.eval_commands.specs.declared.builtin.Builtin.{Builtin}
-use Rattle.eval_commands.specs.declared.builtin.Builtin.TheVariants as builtin
 use Rattle.eval_matching.specs.Attributes.{is_not_read}
 use Rattle.eval_matching.specs.Subjects.{is_not_given}
-use Rattle.eval_state.specs.Chains.{device_at}
-use Rattle.eval_state.specs.Places.{is_there, place_of}
-use Rattle.eval_state.specs.Named.{NamedValue, named, named_place}
-use Rattle.eval_state.specs.Properties.{properties_set}
-use Rattle.eval_state.specs.Scenes.{noted, with_env}
-use Rattle.eval_state.specs.declared.note_kind.NoteKind.{NoteKind}
-use Rattle.eval_state.specs.declared.note_kind.NoteKind.TheVariants.{AttributeNotRead, BuiltinNotRun, ConstantNotGiven, NoAnswer, TestNotMade, TextTooLong}
+use Rattle.eval_state.specs.Scenes.{noted}
+use Rattle.eval_state.specs.declared.note_kind.NoteKind.TheVariants.{AttributeNotRead, ConstantNotGiven}
 use Rattle.eval_state.specs.declared.scene.Scene.{Scene}
-use Rattle.eval_acts.specs.Acts.{act_step, command_reached, from_parent_by, import_reached, imported, on_text, performed, too_long_noted}
-use Rattle.eval_acts.specs.BuiltinRuns.{looked_up, most_set, needs_noted, outcome_set, outcome_taken, path_id_run, properties_size, usb_id_run, with_maker}
-use Rattle.eval_acts.specs.RootImports.{file_properties, from_file, from_found}
-use Rattle.eval_acts.specs.Stored.{from_stored, is_stored_known, stored_value}
-use Rattle.eval_acts.specs.Imports.{builtin_run, from_answer_or_noted, from_line, from_parent, from_part, from_program, name_given, not_run, run_builtin, taken, words_for}
-use Rattle.eval_lookups.specs.LookUpNeeds.{lookup_needs}
-use Rattle.eval_lookups.specs.LookUps.{found}
-use Rattle.eval_acts.specs.Printed.{printed_properties}
-use Rattle.eval_acts.specs.Questions.{answered_by_block, answered_or_noted, is_somewhere, result_of, tested, tested_at, tested_by, tested_by_udev, tested_here, with_result}
+use Rattle.eval_acts.specs.Acts.{act_step, performed}
 use Rattle.eval_acts.specs.Reaching.{match_reached}
 use Rattle.eval_assignments.specs.Steps.{set_step}
 use Rattle.eval_rules.specs.Idle.{change_applies, is_idle, note_step}
 use Rattle.eval_rules.specs.Steps.{Went, apply, only_noted, if_proceeding, plain_step, result_step, search, set_all, steps, before_sets, walk}
 use Rattle.eval_assignments.proofs.Staying.{Stays, set_stays}
-use Rattle.eval_acts.proofs.Staying.{act_stays}
+use Rattle.eval_acts.proofs.Staying.{late_stays, performed_stays}
+
+-- ---- acts
+
+-- an act
+pub act_stays : (known : Known) (r : Rule) (act : Act) (s : Scene) → Stays s (act_step known r act s).0
+unfolding act_step
+act_stays known r act s = late_stays r act.kind (performed known r act.kind s).1 s (performed known r act.kind s).0 (performed_stays known r act.kind s)
 
 -- ---- matches
 

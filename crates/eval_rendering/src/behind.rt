@@ -5,8 +5,9 @@ ghost use Rattle.text_bytes.specs.Names.{space};
 ghost use Rattle.text_tables.specs.Pairs.{names};
 ghost use Rattle.text_tables.specs.Texts.{same_text};
 ghost use Rattle.eval_state.specs.Chains.{device_at};
-ghost use Rattle.eval_rendering.specs.Behind.{is_above, is_bus, is_long_file, is_long_of_pci, is_of_class, is_partition, is_untold, is_untold_by, is_untold_of};
-ghost use Rattle.eval_rendering.specs.Behind.{leads_into_hidden, lies_in, linked_device, links_up, may_be_untold, next_above, place_above, rest_behind, value_at_link, value_behind};
+ghost use Rattle.eval_rendering.specs.Behind.{is_above, is_bus, is_long_file, is_long_of_pci, is_of_class, is_partition, is_untold, is_untold_by};
+ghost use Rattle.eval_rendering.specs.Behind.{is_untold_of, leads_into_hidden, lies_in, linked_device, links_up, may_be_untold, next_above};
+ghost use Rattle.eval_rendering.specs.Behind.{place_above, rest_behind, value_at_link, value_behind};
 
 use device_core::Device;
 use eval_state::Chain;

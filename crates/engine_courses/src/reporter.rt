@@ -188,7 +188,7 @@ impl<'w, 't, 'a> Watch<'a> for Reporter<'w, 't, 'a> {
         }
     }
 
-    #[tactic(auto, unfolding(eval_courses::specs::Acts::act_report), using(eval_acts::proofs::Staying::act_stays))]
+    #[tactic(auto, unfolding(eval_courses::specs::Acts::act_report), using(eval_rules::proofs::Staying::act_stays))]
     fn act<K: Knowledge>(
         &mut self,
         alloc: Global,

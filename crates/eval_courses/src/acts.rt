@@ -176,7 +176,7 @@ fn act_met(
 }
 
 /// Does what an act asks for, and adds what it met to the texts, by what was known before.
-#[tactic(auto, using(eval_acts::proofs::Staying::act_stays, crate::proofs::Reporting::done_is))]
+#[tactic(auto, using(eval_rules::proofs::Staying::act_stays, crate::proofs::Reporting::done_is))]
 fn report_done<K: Knowledge>(
     alloc: Global,
     rule: &Rule,

@@ -1,20 +1,16 @@
 -- What assignments leave as it was.
-use Rattle.std.proofs.Common.{◌≡◌, ℕ, suc, ◌+◌, ◌<◌, ◌≤◌, ◌⊎◌, inl, inr, Bool, true, false, cond, not, ◌||◌, ◌&&◌, List, [], ◌∷◌, ◌++◌, length, drop, fold, filter, flat_map, nat_eq, Option, Some, None, map, codes, append_assoc, refl, ap, sym, ◌∙◌, subst, arith}
-use Rattle.std.specs.List.{list_any}
+use Rattle.std.proofs.Common.{◌≡◌, suc, ◌<◌, ◌⊎◌, inl, inr, Bool, true, false, cond, not, ◌||◌, List, [], ◌∷◌, ◌++◌, length, drop, filter, nat_eq, Option, Some, None, map, codes, append_assoc, refl, ap, sym, ◌∙◌, subst, arith}
 use Rattle.std.specs.Option.{option_or}
 use Rattle.std.specs.Cmp.Lexicographic.{bytes_decides}
-use Rattle.text_bytes.specs.declared.profile.Profile.{Profile}
-use Rattle.text_bytes.specs.declared.profile.Profile.TheVariants.{Manual, Udev}
 use Rattle.text_bytes.specs.Text.{Text}
 use Rattle.text_tables.specs.Texts.{is_among, same_text, with_text, with_texts, without_text}
 use Rattle.text_tables.specs.Pairs.{Pair, value_of, with_value, without_name}
 use Rattle.eval_state.specs.Properties.{property_set}
-use Rattle.eval_state.specs.Scenes.{noted, with_env}
 use Rattle.eval_state.specs.declared.scene.Scene.{Scene}
 use Rattle.eval_assignments.specs.Lists.{without_texts}
 use Rattle.eval_assignments.specs.Tags.{current_tags}
 use Rattle.eval_effects.specs.Items.{item_name, items, label_items, node_items, pair_items, text_items}
-use Rattle.eval_sources.proofs.Lookups.{by_parts, first_of_seven, items_at, value_append}
+use Rattle.eval_sources.proofs.Lookups.{first_of_seven, items_at}
 
 is_same : (a b : Text) → same_text a b ≡ true → a ≡ b
 is_same a b h = (bytes_decides a b).0 h

@@ -9,13 +9,11 @@ use Rattle.text_bytes.specs.Texts.{skip_while}
 use Rattle.rule_templates.specs.Substituted.{has_sign}
 use Rattle.rule_templates.specs.Reading.{FirstPiece, is_no_sign, kept, left_of, left_within, plain_first, udev_first, with_kept}
 use Rattle.rule_templates.specs.declared.piece.Piece.{Piece}
-use Rattle.rule_templates.specs.declared.piece.Piece.TheVariants as piece
 use Rattle.eval_state.specs.declared.state.State.{State}
 use Rattle.eval_rendering.specs.Bounds.{bounded}
 use Rattle.eval_rendering.specs.Pieces.{has_long, is_long, piece_text}
 use Rattle.eval_rendering.specs.Rendering.{as_rendered, render, rendered_as_udev, text_in}
 use Rattle.eval_rendering.specs.declared.rendered.Mode.TheVariants.{Plain}
-use Rattle.eval_rendering.specs.declared.rendered.Rendered.{Rendered}
 use Rattle.eval_rendering.specs.declared.rendered.Rendered.TheVariants as rendered
 
 neither : (a b : Bool) → (a || b) ≡ false → (a ≡ false) × (b ≡ false)

@@ -1,17 +1,16 @@
 -- What one assignment leaves as it was.
-use Rattle.std.proofs.Common.{◌≡◌, ℕ, Bool, true, false, cond, not, ◌||◌, ◌&&◌, List, [], ◌∷◌, ◌++◌, length, fold, flat_map, nat_lt, inl, Option, Some, None, codes, refl, ap, sym, ◌∙◌, subst}
+use Rattle.std.proofs.Common.{◌≡◌, ℕ, Bool, true, false, cond, ◌||◌, ◌&&◌, List, [], ◌∷◌, length, fold, flat_map, nat_lt, inl, Option, Some, None, codes, refl, ap, sym, ◌∙◌, subst}
 use Rattle.std.specs.List.{list_any}
 use Rattle.text_bytes.specs.declared.profile.Profile.{Profile}
 use Rattle.text_bytes.specs.declared.profile.Profile.TheVariants.{Manual, Udev}
-use Rattle.text_bytes.specs.Texts.{is_empty}
 use Rattle.text_bytes.specs.Text.{Text}
-use Rattle.text_tables.specs.Texts.{is_among, same_text, with_text}
+use Rattle.text_tables.specs.Texts.{is_among, same_text}
 use Rattle.text_tables.specs.Pairs.{Pair, value_of, with_value}
 use Rattle.rule_templates.specs.Template.{Parts as Template}
 use Rattle.rule_types.specs.Written.{attribute_of_target, key_of_target}
 use Rattle.rule_types.specs.declared.keys.Key.TheVariants as key
 use Rattle.rule_types.specs.declared.roles.AssignOperator.{AssignOperator}
-use Rattle.rule_types.specs.declared.roles.AssignOperator.TheVariants.{Assign, Add, Remove, AssignFinal}
+use Rattle.rule_types.specs.declared.roles.AssignOperator.TheVariants.{Assign, Add, AssignFinal}
 use Rattle.rule_types.specs.declared.roles.Target.{Target}
 use Rattle.rule_types.specs.declared.roles.Target.TheVariants as target
 use Rattle.rule_types.specs.declared.rule_option.RuleOption.{RuleOption}
@@ -47,15 +46,15 @@ use Rattle.eval_assignments.specs.Lists.{changed, link_names, one_tag}
 use Rattle.eval_assignments.specs.Modes.{four_digits, mode_read, mode_set}
 use Rattle.eval_assignments.specs.Names.{name_text}
 use Rattle.eval_assignments.specs.Parameters.{parameter_name, parameter_put}
-use Rattle.eval_assignments.specs.Properties.{env_text, property_added, property_changed, property_extended, property_joined, property_put, udev_property_changed}
+use Rattle.eval_assignments.specs.Properties.{env_text, property_changed, property_extended, property_joined, property_put, udev_property_changed}
 use Rattle.eval_assignments.specs.Runs.{command_made, made_before, run_made, run_of}
 use Rattle.eval_assignments.specs.Steps.{emptied, finally_too_long, is_ignored, lacks_number, run_step, set_step, step_by, text_given, text_rendered, text_set, text_step}
 use Rattle.eval_assignments.specs.Tags.{is_tag, tag_added, with_tag}
-use Rattle.eval_assignments.specs.Written.{found_attribute, is_own, parameter_in, written_name}
+use Rattle.eval_assignments.specs.Written.{found_attribute, is_own, parameter_in}
 use Rattle.eval_assignments.specs.declared.escapes.Escape.{Escape}
 use Rattle.eval_assignments.proofs.Staying.{set_stays}
 use Rattle.eval_assignments.proofs.Writing.{attribute_is_set}
-use Rattle.eval_effects.specs.Items.{item_name, label_items, node_items, pair_items}
+use Rattle.eval_effects.specs.Items.{item_name, node_items, pair_items}
 use Rattle.eval_sources.specs.Touched.{is_wide, is_wide_text, named_by, named_by_text, node_words, written_named}
 use Rattle.eval_sources.proofs.PlainNames.{rendered_alike}
 use Rattle.eval_sources.proofs.Lookups.{no_node, no_word}

@@ -43,7 +43,7 @@ impl<'a> Watch<'a> for Noted {
         Ok(())
     }
 
-    #[tactic(auto, using(eval_acts::proofs::Staying::act_stays))]
+    #[tactic(auto, using(eval_rules::proofs::Staying::act_stays))]
     fn act<K: Knowledge>(
         &mut self,
         alloc: Global,

@@ -1,9 +1,7 @@
-use Rattle.std.proofs.Common.{◌≡◌, true, false, ◌++◌, ◌∷◌, [], List, Option, Some, None, OnOk, option_map, cond, codes, ap, subst, ◌∙◌}
-use Rattle.std.specs.Fmt.{signed_decimal}
+use Rattle.std.proofs.Common.{◌≡◌, ◌++◌, ◌∷◌, [], List, Option, OnOk, codes, ap, subst, ◌∙◌}
 use Rattle.text_bytes.specs.Text.{Text}
 use Rattle.eval_state.specs.Texts.{filled}
 use Rattle.eval_state.specs.declared.scene.Scene.{Scene}
-use Rattle.eval_sources.specs.Touched.{is_watch}
 use Rattle.eval_sources.proofs.Lookups.{four}
 use Rattle.eval_sources.proofs.node.push_texts.Goals as goal
 

@@ -7,7 +7,8 @@ ghost use Rattle.std.specs.Prelude.{◌≡◌, map, true};
 ghost use Rattle.text_bytes.specs.Escapes.{is_control};
 ghost use Rattle.text_bytes.specs.Names.{newline};
 ghost use Rattle.engine_ends.specs.Delivery.{ReportsFailure, out_of_memory};
-ghost use Rattle.devdry.specs.Reporting.{ReportsLineFault, ReportsNamedFault, ReportsOptionsFault, ReportsReadFault, cannot_read, not_text, said_byte, said_of_words};
+ghost use Rattle.devdry.specs.Reporting.{ReportsLineFault, ReportsNamedFault, ReportsOptionsFault, ReportsReadFault};
+ghost use Rattle.devdry.specs.Reporting.{cannot_read, not_text, said_byte, said_of_words};
 
 use devdry_files::ReadFault;
 use devdry_options::OptionsFault;

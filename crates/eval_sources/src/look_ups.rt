@@ -151,7 +151,8 @@ fn push_target(
     scene: &Scene<'_>,
     target: &Target,
 ) -> Result<(), AllocError>
-    ensures { OnOk result (found.new.items ≡ found.old.items ++ names.found (items scene.now) (names.named_by_text scene.now.state.event.profile scene.now.state target.now)) }
+    ensures { OnOk result (found.new.items ≡ found.old.items
+        ++ names.found (items scene.now) (names.named_by_text scene.now.state.event.profile scene.now.state target.now)) }
 {
     match target {
         Target::Env(name) => push_property(alloc, found, scene, name.as_slice()),
@@ -175,7 +176,8 @@ fn push_named(
     scene: &Scene<'_>,
     change: &Change,
 ) -> Result<(), AllocError>
-    ensures { OnOk result (found.new.items ≡ found.old.items ++ names.found (items scene.now) (names.named_by scene.now.state.event.profile scene.now.state change.now)) }
+    ensures { OnOk result (found.new.items ≡ found.old.items
+        ++ names.found (items scene.now) (names.named_by scene.now.state.event.profile scene.now.state change.now)) }
 {
     match change {
         Change::Option(_) => push_node(alloc, found, scene),
@@ -255,7 +257,8 @@ fn push_all_named(
     scene: &Scene<'_>,
     sets: &[Assignment],
 ) -> Result<(), AllocError>
-    ensures { OnOk result (found.new.items ≡ found.old.items ++ names.found (items scene.now) (flat_map (λ a. names.named_by scene.now.state.event.profile scene.now.state a.change) sets.now)) }
+    ensures { OnOk result (found.new.items ≡ found.old.items
+        ++ names.found (items scene.now) (flat_map (λ a. names.named_by scene.now.state.event.profile scene.now.state a.change) sets.now)) }
 {
     for set in sets {
         push_named(alloc, found, scene, &set.change)?;

@@ -8,18 +8,17 @@ use Rattle.text_tables.specs.Texts.{with_text, with_texts}
 use Rattle.builtin_knowledge.specs.Knowledge.{Known}
 use Rattle.rule_types.specs.Rules.{Rule}
 use Rattle.eval_state.specs.declared.scene.Scene.{Scene}
-use Rattle.eval_acts.specs.Acts.{act_step}
 use Rattle.eval_rules.specs.Idle.{is_idle}
 use Rattle.eval_rules.specs.Jumps.{is_passed, sought_after}
 use Rattle.eval_rules.specs.Moments.{happening}
-use Rattle.eval_rules.specs.Steps.{Went, apply, before_sets, if_proceeding, only_noted, plain_step, result_step, set_all, steps, walk}
+use Rattle.eval_rules.specs.Steps.{Went, apply, before_sets, if_proceeding, only_noted, plain_step, result_step, set_all, steps}
 use Rattle.eval_rules.specs.Watched.{Seen, apply_watched, assigned_watched, keys_watched, run_watched, skip_told, skipped, skipped_watched, stopped}
 use Rattle.eval_rules.specs.declared.watch.Moment.{Moment}
 use Rattle.eval_rules.specs.declared.watch.Moment.TheVariants as moment
-use Rattle.eval_courses.specs.Courses.{acted, matched, reports_if_proceeding, searched, walk_reports}
+use Rattle.eval_courses.specs.Courses.{acted, matched, reports_if_proceeding, walk_reports}
 use Rattle.eval_courses.specs.Inner.{asking}
-use Rattle.eval_courses.specs.Questions.{act_asks, acts_ask, can_be_asked, rule_asks, rules_ask, with_asked}
-use Rattle.eval_courses.proofs.Gathering.{keys_gather, keys_told, seen}
+use Rattle.eval_courses.specs.Questions.{act_asks, can_be_asked, rule_asks, rules_ask, with_asked}
+use Rattle.eval_courses.proofs.Gathering.{keys_gather, keys_told}
 
 -- commands are added in two parts
 asked_more : (before xs ys : List Text) → with_asked before (xs ++ ys) ≡ with_asked (with_asked before xs) ys

@@ -10,7 +10,6 @@ use Rattle.eval_rules.specs.Steps.{Went, apply, before_sets, if_proceeding, plai
 use Rattle.eval_courses.specs.Courses.{acted, matched, reports_if_proceeding, searched, walk_reports}
 use Rattle.eval_courses.specs.Fates.{fate, fates_from, keys_of, keys_reached, search_key}
 use Rattle.eval_courses.specs.Keys.{act_key, plain_key, result_key}
-use Rattle.eval_courses.specs.declared.fate.Fate.{Fate}
 use Rattle.eval_courses.specs.declared.fate.Fate.TheVariants.{Passed, Stopped, Met}
 
 pub met_so : (known : Known) (r : Rule) (s : Scene) → (fate known r s ≡ Met) ↔ ((before_sets known r s).1 ≡ true)

@@ -12,7 +12,7 @@ use Rattle.eval_effects.specs.Effects.{ending}
 use Rattle.eval_effects.specs.Since.{Since}
 use Rattle.eval_rules.specs.Idle.{is_idle}
 use Rattle.eval_rules.specs.Steps.{Went, apply, before_sets, if_proceeding, only_noted, set_all, steps}
-use Rattle.eval_rules.specs.Watched.{Seen, Telling, acted, assigned, assigned_watched, comparing, entered_watched, keys_watched, meeting, searching, skip_told, skipped, skipped_watched, stopped}
+use Rattle.eval_rules.specs.Watched.{Telling, acted, assigned, assigned_watched, comparing, entered_watched, keys_watched, meeting, searching, skip_told, skipped, skipped_watched, stopped}
 use Rattle.eval_courses.specs.Acts.{act_report}
 use Rattle.eval_courses.specs.Courses.{course, end_of, key_reports}
 use Rattle.eval_courses.specs.Looks.{plain_report, result_report}

@@ -1,8 +1,7 @@
 -- How a rule that is skipped ended, though all its keys would let it go on: what of it does nothing, and why.
-use Rattle.std.specs.Prelude.{Bool, true, false, ◌&&◌, if◌then◌else◌, List, [], ◌∷◌, ◌++◌, map, codes}
+use Rattle.std.specs.Prelude.{Bool, ◌&&◌, if◌then◌else◌, List, [], ◌∷◌, ◌++◌, map, codes}
 use Rattle.text_bytes.specs.Texts.{is_empty}
 use Rattle.text_bytes.specs.Text.{Text}
-use Rattle.rule_types.specs.declared.part.Assignment.{Assignment}
 use Rattle.rule_types.specs.declared.part.Change.{Change}
 use Rattle.rule_types.specs.declared.part.Change.TheVariants as change
 use Rattle.rule_types.specs.declared.roles.Target.{Target}

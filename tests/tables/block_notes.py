@@ -1,5 +1,6 @@
 """Notes about a block itself, which an answer of `--udev` has: an action that udev does not have, a path with `/sys` at its
-start, under `add` a property that udev stores later, and a property of the farthest parent behind commands. The blocks have `U: m`
+start, under `add` a property that udev stores later, a property of the farthest parent behind commands, attributes of a device
+that is removed, and lines that end in CR LF. The blocks have `U: m`
 but for those of BARE, at which no rule is tried.
 
 What is wanted follows from docs/behaviour.md; nothing here was taken from the program.
@@ -82,6 +83,22 @@ BEHIND = [
     noted("a line of a stored property is none", ("add", "/a/d", [*PARENT, "B: A=1"], [])),
 ]
 
+GONE = [
+    noted("an attribute of a device that is removed", ("remove", "/d", ["A: a=1"], ["note -: attributes of a removed device: /d"]),
+          ("remove", "/d", ["A: a="], ["note -: attributes of a removed device: /d"])),
+    noted("an attribute under other actions", *((action, "/d", ["A: a=1"], []) for action in "add change move online offline bind unbind".split())),
+    noted("an attribute of a parent of a device that is removed", ("remove", "/a/d", ["P: /a", "A: a=1"], [])),
+    noted("a removal without attributes", ("remove", "/d", ["E: A=1", "K: a=1"], ["env A=1"])),
+]
+
+# A block with the line ends of some editors, the last line too.
+ENDS = [
+    Row("lines that end in CR LF", "events --udev -r none r.rules", {"r.rules": 'ACTION=="add", ENV{A}="1"\n'}, "C: add\r\nP: /d\r\nU: m\r\n",
+        "event add\\x0D /d\\x0D\nenv ACTION=add\\x0D\nenv DEVPATH=/d\\x0D\nenv SUBSYSTEM=m\\x0D\n"
+        "note -: unknown action: add\\x0D\nnote -: carriage return at line ends: /d\\x0D\n\n"),
+    noted("a carriage return within a path", ("add", "/a\rb", [], [])),
+]
+
 TOGETHER = [
     noted("several notes are in order, before those of rules", ("plug", "/sys/d", [], ["run program r", unknown("plug"), misplaced("/sys/d"), "note r.rules:1: import not run: db"]),
           ("add", "/sys/d", [f"E: {STORED}=7"], [f"env {STORED}=7", "run program r", misplaced("/sys/d"), STORED_NOTE, "note r.rules:1: import not run: db"]),
@@ -124,4 +141,4 @@ BARE = [
     bare("compare finds no difference at it", f"compare --udev {OLD} {NEW}", "", **{placed(OLD): "", placed(NEW): 'TAG+="t"\n'}),
 ]
 
-ROWS = ACTIONS + PATHS + STORES + BEHIND + TOGETHER + BARE
+ROWS = ACTIONS + PATHS + STORES + BEHIND + GONE + ENDS + TOGETHER + BARE

@@ -10,6 +10,8 @@ from tables.kinds.why import of, why
 # A device without a subsystem, which the kernel sends no event of.
 HOST = "C: add\nP: /devices/pci0000:00\nE: A=1\n"
 NO_EVENT = "note -: no subsystem, so no rule is tried: /devices/pci0000:00"
+# What is said of a block of a disk that is removed, and has attributes.
+GONE = "note -: attributes of a removed device: /devices/pci0/usb1/block/sda"
 ALL = 'ENV{F}="1"\nTAG+="t", RUN+="/bin/a"\n'
 
 # A disk of a class below a device of virtio, as this machine has it.
@@ -98,7 +100,7 @@ NOTED = [
     ("a bus whose name begins alike is another", 'ATTR{device/vendor}=="0x1af4", ENV{A}="1"\n', VIRTIO + "K: bus=pci blocks virtio\n", ["env A=1"]),
     ("an attribute of a device that is removed", 'ATTR{size}=="2048", ENV{A}="1"\nATTR{none}!="x", ENV{B}="1"\nATTR{../../serial}=="7", ENV{C}="1"\n'
      'ATTR{[usb/usb1]serial}=="7", ENV{D}="1"\n', removed(DISK),
-     ["env A=1", "env C=1", "env D=1", "note r.rules:1: attribute is gone: size", "note r.rules:2: attribute is gone: none"]),
+     ["env A=1", "env C=1", "env D=1", GONE]),
     ("a word of a part of the command line", 'IMPORT{cmdline}=="ab", ENV{A}="1"\nIMPORT{cmdline}!="ab", ENV{B}="1"\n', THING + "K: cmdline.part=x ab=2\n", ["env A=1", "env ab=2"]),
     ("a word that a part of the command line does not have", 'IMPORT{cmdline}=="ab", ENV{A}="1"\nIMPORT{cmdline}!="ab", ENV{B}="1"\nIMPORT{cmdline}!="", ENV{C}="1"\n',
      THING + "K: cmdline.part=x abc\n",

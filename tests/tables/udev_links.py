@@ -213,7 +213,7 @@ CASES = [
       'SUBSYSTEMS=="usb", SYMLINK+="x", MODE="0600", TAG+="z"\n' +
       'ENV{D}="[$id]"\n'),
      removed(DISK),
-     ['mode 0600', 'link x', 'tag z', 'env C=[]', 'env D=[usb1]']),
+     ['mode 0600', 'link x', 'tag z', 'env C=[]', 'env D=[usb1]', 'note -: attributes of a removed device: /devices/pci0/usb1/block/sda']),
     ('a rule with links and a program is evaluated',
      ('PROGRAM="ata_id one", SYMLINK+="x"\n' +
       'ENV{A}="%c"\n'),

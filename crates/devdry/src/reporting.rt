@@ -3,7 +3,9 @@
 //! Nothing here takes memory: a line on a failure is written from the texts that are there. What is said about words has
 //! these in it, and a script may take them from anywhere, so a terminal is not to obey them.
 ghost use Rattle.std.specs.IoError.{error_kind};
-ghost use Rattle.std.specs.Prelude.{◌≡◌, map};
+ghost use Rattle.std.specs.Prelude.{◌≡◌, map, true};
+ghost use Rattle.text_bytes.specs.Escapes.{is_control};
+ghost use Rattle.text_bytes.specs.Names.{newline};
 ghost use Rattle.engine_ends.specs.Delivery.{ReportsFailure, out_of_memory};
 ghost use Rattle.devdry.specs.Reporting.{ReportsLineFault, ReportsNamedFault, ReportsOptionsFault, ReportsReadFault, cannot_read, not_text, said_byte, said_of_words};
 
@@ -40,7 +42,8 @@ pub(crate) fn report_arguments_fault<E: Sink>(fault: &io::Error, error: &mut E) 
 
 /// A byte of what is said about words: a newline, or as a byte of a line is shown.
 fn said_byte(byte: u8) -> u8
-    ensures { result ≡ said_byte byte }
+    ensures value { result ≡ said_byte byte }
+    ensures clean { is_control result ≡ true → result ≡ newline }
 {
     if byte == b'\n' {
         byte

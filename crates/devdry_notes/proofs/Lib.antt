@@ -1,2 +1,2 @@
 pub mod NoBreak
-pub mod Ranks
+pub mod LeastRanks

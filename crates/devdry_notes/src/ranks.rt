@@ -43,7 +43,7 @@ fn is_outranked(ranks: &Table<'_, u8>, file: &SourceFile) -> bool
 }
 
 /// Takes the rank of a file, unless its name has a lesser one.
-#[tactic(auto, using(crate::proofs::Ranks::rank_left, crate::proofs::Ranks::rank_put))]
+#[tactic(auto, using(crate::proofs::LeastRanks::rank_left, crate::proofs::LeastRanks::rank_put))]
 fn take_rank<'f>(ranks: &mut Table<'f, u8>, file: &'f SourceFile) -> Result<(), AllocError>
     ensures { OnOk result ((other : SourceFile) → is_outranked ranks.new other ≡ (is_outranked ranks.old other || hides other file.now)) }
 {

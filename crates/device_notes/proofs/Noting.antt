@@ -1,6 +1,7 @@
 -- The notes of a kind: one if it is so, else none.
-use Rattle.std.proofs.Common.{◌≡◌, ◌≢◌, ◌↔◌, ◌⊎◌, inl, inr, ℕ, Bool, true, false, not, ◌&&◌, ◌||◌, List, [], ◌∷◌, ◌++◌, Option, Some, None, unwrap_or, codes, drop, length, filter, refl, ap, sym, ◌∙◌}
-use Rattle.std.proofs.lemmas.List.{append-nil}
+use Rattle.std.proofs.Common.{◌≡◌, ◌≢◌, ◌↔◌, ◌⊎◌, inl, inr, ℕ, Bool, true, false, not, ◌&&◌, ◌||◌, List, [], ◌∷◌, ◌++◌, Option, Some, None, codes, drop, length, filter, flat_map, cond, ◌==◌, suc, slice_index, refl, ap, sym, ◌∙◌, arith}
+use Rattle.std.proofs.Math.Seq.{get_or-append_seam}
+use Rattle.std.proofs.lemmas.List.{append-nil, length-append}
 use Rattle.std.proofs.lemmas.List.Elements.{filter-append}
 use Rattle.std.specs.Cmp.Lexicographic.{bytes_decides}
 use Rattle.std.proofs.lemmas.Bool.{true≢false}
@@ -10,86 +11,46 @@ use Rattle.text_bytes.specs.declared.profile.Profile.{Profile}
 use Rattle.text_bytes.specs.declared.profile.Profile.TheVariants.{Manual, Udev}
 use Rattle.text_bytes.specs.Text.{Text}
 use Rattle.text_tables.specs.Texts.{is_among, same_text}
-use Rattle.text_tables.specs.Pairs.{value_of}
-use Rattle.text_bytes.specs.Texts.{is_empty}
+use Rattle.text_tables.specs.Pairs.{Pair, value_of}
+use Rattle.text_bytes.specs.Names.{carriage_return}
+use Rattle.text_bytes.specs.Texts.{ends_in, is_empty}
 use Rattle.device_core.specs.Values.{DeviceValue, EventValue}
 use Rattle.device_notes.specs.Laws.{IsNoneOf, notes_of, same_kind}
 use Rattle.device_notes.specs.Tried.{lacks_event, lacks_event_by}
-use Rattle.device_notes.specs.Notes.{begins_with_sys, block_notes, is_behind_commands, is_filled, is_stored_by_udev, is_unknown_action, note_about, note_if, notes_by}
+use Rattle.device_notes.specs.Notes.{about, begins_with_sys, block_notes, due_note, has_gone_attributes, is_behind_commands, is_due, is_filled, is_stored_by_udev, kinds, note_about, note_if, notes_by, udev_notes}
 use Rattle.device_notes.specs.declared.kinds.BlockNoteKind.{BlockNoteKind}
-use Rattle.device_notes.specs.declared.kinds.BlockNoteKind.TheVariants.{BehindCommands, NoSubsystem, PathBeginsWithSys, StoredByUdev, UnknownAction}
+use Rattle.device_notes.specs.declared.kinds.BlockNoteKind.TheVariants.{BehindCommands, GoneAttributes, NoSubsystem, PathBeginsWithSys, ReturnAtEnds, StoredByUdev, UnknownAction}
 use Rattle.device_notes.specs.declared.notes.BlockNote.{BlockNote}
-
--- the notes, by what is so
-abbrev four : Bool → Bool → Bool → Bool → Text → Text → Text → Text → List BlockNote
-four a b c d u v w x = note_if a UnknownAction u ++ note_if b PathBeginsWithSys v ++ note_if c StoredByUdev w ++ note_if d BehindCommands x
 
 abbrev of_kind : BlockNoteKind → List BlockNote → List BlockNote
 of_kind kind notes = filter (λ note. same_kind kind note.kind) notes
 
-parts : (kind : BlockNoteKind) (us vs ws xs : List BlockNote) → of_kind kind (us ++ vs ++ ws ++ xs) ≡ of_kind kind us ++ of_kind kind vs ++ of_kind kind ws ++ of_kind kind xs
-parts kind us vs ws xs =
-    let first : of_kind kind (us ++ vs) ≡ of_kind kind us ++ of_kind kind vs = filter-append (λ note. same_kind kind note.kind) us vs in
-    let second : of_kind kind (us ++ vs ++ ws) ≡ of_kind kind (us ++ vs) ++ of_kind kind ws = filter-append (λ note. same_kind kind note.kind) (us ++ vs) ws in
-    let third : of_kind kind (us ++ vs ++ ws ++ xs) ≡ of_kind kind (us ++ vs ++ ws) ++ of_kind kind xs = filter-append (λ note. same_kind kind note.kind) (us ++ vs ++ ws) xs in
-    third ∙ ap (λ notes. notes ++ of_kind kind xs) (second ∙ ap (λ notes. notes ++ of_kind kind ws) first)
+-- the notes of a kind among those of another one: all or none
+of_due : (event : EventValue) (kind other : BlockNoteKind) → of_kind kind (due_note event other) ≡ cond (same_kind kind other) (due_note event other) []
+of_due event kind other = by (is_due event other) (same_kind kind other) refl
+  where
+    by : (is_so same : Bool) → same_kind kind other ≡ same → of_kind kind (note_if is_so other (about event other)) ≡ cond same (note_if is_so other (about event other)) []
+    by true true e = rw e refl
+    by true false e = rw e refl
+    by false true e = refl
+    by false false e = refl
 
-mine : (kind : BlockNoteKind) → same_kind kind kind ≡ true → (is_so : Bool) (text : Text) → of_kind kind (note_if is_so kind text) ≡ note_if is_so kind text
-mine kind same true text = rw same refl
-mine kind same false text = refl
+picked : (event : EventValue) (kind : BlockNoteKind) (ks : List BlockNoteKind)
+    → of_kind kind (flat_map (due_note event) ks) ≡ flat_map (λ k. cond (same_kind kind k) (due_note event k) []) ks
+picked event kind [] = refl
+picked event kind (k ∷ ks) =
+    filter-append (λ note. same_kind kind note.kind) (due_note event k) (flat_map (due_note event) ks)
+    ∙ (λ i. of_due event kind k i ++ picked event kind ks i)
 
-none_other : (kind other : BlockNoteKind) → same_kind kind other ≡ false → (is_so : Bool) (text : Text) → of_kind kind (note_if is_so other text) ≡ []
-none_other kind other differs true text = rw differs refl
-none_other kind other differs false text = refl
-
-module _ (a b c d : Bool) (u v w x : Text) where
-  action_alone : of_kind UnknownAction (four a b c d u v w x) ≡ note_if a UnknownAction u
-  action_alone =
-      parts UnknownAction (note_if a UnknownAction u) (note_if b PathBeginsWithSys v) (note_if c StoredByUdev w) (note_if d BehindCommands x)
-      ∙ (λ i. mine UnknownAction refl a u i ++ none_other UnknownAction PathBeginsWithSys refl b v i ++ none_other UnknownAction StoredByUdev refl c w i ++ none_other UnknownAction BehindCommands refl d x i)
-      ∙ append-nil (note_if a UnknownAction u ++ [] ++ []) ∙ append-nil (note_if a UnknownAction u ++ []) ∙ append-nil (note_if a UnknownAction u)
-
-  path_alone : of_kind PathBeginsWithSys (four a b c d u v w x) ≡ note_if b PathBeginsWithSys v
-  path_alone =
-      parts PathBeginsWithSys (note_if a UnknownAction u) (note_if b PathBeginsWithSys v) (note_if c StoredByUdev w) (note_if d BehindCommands x)
-      ∙ (λ i. none_other PathBeginsWithSys UnknownAction refl a u i ++ mine PathBeginsWithSys refl b v i ++ none_other PathBeginsWithSys StoredByUdev refl c w i ++ none_other PathBeginsWithSys BehindCommands refl d x i)
-      ∙ append-nil (note_if b PathBeginsWithSys v ++ []) ∙ append-nil (note_if b PathBeginsWithSys v)
-
-  stored_alone : of_kind StoredByUdev (four a b c d u v w x) ≡ note_if c StoredByUdev w
-  stored_alone =
-      parts StoredByUdev (note_if a UnknownAction u) (note_if b PathBeginsWithSys v) (note_if c StoredByUdev w) (note_if d BehindCommands x)
-      ∙ (λ i. none_other StoredByUdev UnknownAction refl a u i ++ none_other StoredByUdev PathBeginsWithSys refl b v i ++ mine StoredByUdev refl c w i ++ none_other StoredByUdev BehindCommands refl d x i)
-      ∙ append-nil (note_if c StoredByUdev w)
-
-  behind_alone : of_kind BehindCommands (four a b c d u v w x) ≡ note_if d BehindCommands x
-  behind_alone =
-      parts BehindCommands (note_if a UnknownAction u) (note_if b PathBeginsWithSys v) (note_if c StoredByUdev w) (note_if d BehindCommands x)
-      ∙ (λ i. none_other BehindCommands UnknownAction refl a u i ++ none_other BehindCommands PathBeginsWithSys refl b v i ++ none_other BehindCommands StoredByUdev refl c w i ++ mine BehindCommands refl d x i)
-
-  no_other : of_kind NoSubsystem (four a b c d u v w x) ≡ []
-  no_other =
-      parts NoSubsystem (note_if a UnknownAction u) (note_if b PathBeginsWithSys v) (note_if c StoredByUdev w) (note_if d BehindCommands x)
-      ∙ (λ i. none_other NoSubsystem UnknownAction refl a u i ++ none_other NoSubsystem PathBeginsWithSys refl b v i ++ none_other NoSubsystem StoredByUdev refl c w i ++ none_other NoSubsystem BehindCommands refl d x i)
-
--- the notes of an event that are not about its subsystem
-abbrev four_of : EventValue → List BlockNote
-four_of event =
-    four (is_unknown_action event.action) (begins_with_sys event.device.path) (is_stored_by_udev event) (is_behind_commands event)
-    event.action event.device.path (codes "USEC_INITIALIZED") (unwrap_or event.misplaced [])
-
--- the note about the subsystem is of no other kind
-among_five : (kind : BlockNoteKind) (event : EventValue) (notes : List BlockNote) → same_kind kind NoSubsystem ≡ false → of_kind kind (four_of event) ≡ notes → of_kind kind (notes_by Udev event) ≡ notes
-among_five kind event notes differs alone =
-    filter-append (λ note. same_kind kind note.kind) (four_of event) (note_if (lacks_event event) NoSubsystem event.device.path)
-    ∙ (λ i. alone i ++ none_other kind NoSubsystem differs (lacks_event event) event.device.path i)
-    ∙ append-nil notes
-
-event_alone : (event : EventValue) → of_kind NoSubsystem (notes_by Udev event) ≡ note_if (lacks_event event) NoSubsystem event.device.path
-event_alone event =
-    filter-append (λ note. same_kind NoSubsystem note.kind) (four_of event) (note_if (lacks_event event) NoSubsystem event.device.path)
-    ∙ (λ i. no_other (is_unknown_action event.action) (begins_with_sys event.device.path) (is_stored_by_udev event) (is_behind_commands event)
-    event.action event.device.path (codes "USEC_INITIALIZED") (unwrap_or event.misplaced []) i
-    ++ mine NoSubsystem refl (lacks_event event) event.device.path i)
+-- each kind is there once
+alone : (event : EventValue) (kind : BlockNoteKind) → of_kind kind (udev_notes event) ≡ due_note event kind
+alone event UnknownAction = picked event UnknownAction kinds ∙ append-nil (due_note event UnknownAction)
+alone event PathBeginsWithSys = picked event PathBeginsWithSys kinds ∙ append-nil (due_note event PathBeginsWithSys)
+alone event StoredByUdev = picked event StoredByUdev kinds ∙ append-nil (due_note event StoredByUdev)
+alone event BehindCommands = picked event BehindCommands kinds ∙ append-nil (due_note event BehindCommands)
+alone event NoSubsystem = picked event NoSubsystem kinds ∙ append-nil (due_note event NoSubsystem)
+alone event GoneAttributes = picked event GoneAttributes kinds ∙ append-nil (due_note event GoneAttributes)
+alone event ReturnAtEnds = picked event ReturnAtEnds kinds ∙ append-nil (due_note event ReturnAtEnds)
 
 -- a kind's notes by both profiles
 module _ (kind : BlockNoteKind) (text : Text) where
@@ -110,41 +71,14 @@ abbrev pub so_by : Profile → Bool → Bool
 so_by Manual is_so = false
 so_by Udev is_so = is_so
 
-pub action_notes : (event : EventValue) → notes_of UnknownAction event ≡ note_if (so_by event.profile (is_unknown_action event.action)) UnknownAction event.action
+-- the notes of a kind, by a profile
+pub notes_are : (kind : BlockNoteKind) (event : EventValue) → notes_of kind event ≡ note_if (so_by event.profile (is_due event kind)) kind (about event kind)
 unfolding block_notes
-action_notes event = by event.profile
+notes_are kind event = by event.profile
   where
-    by : (profile : Profile) → of_kind UnknownAction (notes_by profile event) ≡ note_if (so_by profile (is_unknown_action event.action)) UnknownAction event.action
+    by : (profile : Profile) → of_kind kind (notes_by profile event) ≡ note_if (so_by profile (is_due event kind)) kind (about event kind)
     by Manual = refl
-    by Udev = among_five UnknownAction event _ refl (action_alone (is_unknown_action event.action) (begins_with_sys event.device.path) (is_stored_by_udev event) (is_behind_commands event)
-        event.action event.device.path (codes "USEC_INITIALIZED") (unwrap_or event.misplaced []))
-
-pub path_notes : (event : EventValue) → notes_of PathBeginsWithSys event ≡ note_if (so_by event.profile (begins_with_sys event.device.path)) PathBeginsWithSys event.device.path
-unfolding block_notes
-path_notes event = by event.profile
-  where
-    by : (profile : Profile) → of_kind PathBeginsWithSys (notes_by profile event) ≡ note_if (so_by profile (begins_with_sys event.device.path)) PathBeginsWithSys event.device.path
-    by Manual = refl
-    by Udev = among_five PathBeginsWithSys event _ refl (path_alone (is_unknown_action event.action) (begins_with_sys event.device.path) (is_stored_by_udev event) (is_behind_commands event)
-        event.action event.device.path (codes "USEC_INITIALIZED") (unwrap_or event.misplaced []))
-
-pub stored_notes : (event : EventValue) → notes_of StoredByUdev event ≡ note_if (so_by event.profile (is_stored_by_udev event)) StoredByUdev (codes "USEC_INITIALIZED")
-unfolding block_notes
-stored_notes event = by event.profile
-  where
-    by : (profile : Profile) → of_kind StoredByUdev (notes_by profile event) ≡ note_if (so_by profile (is_stored_by_udev event)) StoredByUdev (codes "USEC_INITIALIZED")
-    by Manual = refl
-    by Udev = among_five StoredByUdev event _ refl (stored_alone (is_unknown_action event.action) (begins_with_sys event.device.path) (is_stored_by_udev event) (is_behind_commands event)
-        event.action event.device.path (codes "USEC_INITIALIZED") (unwrap_or event.misplaced []))
-
-pub behind_notes : (event : EventValue) → notes_of BehindCommands event ≡ note_if (so_by event.profile (is_behind_commands event)) BehindCommands (unwrap_or event.misplaced [])
-unfolding block_notes
-behind_notes event = by event.profile
-  where
-    by : (profile : Profile) → of_kind BehindCommands (notes_by profile event) ≡ note_if (so_by profile (is_behind_commands event)) BehindCommands (unwrap_or event.misplaced [])
-    by Manual = refl
-    by Udev = among_five BehindCommands event _ refl (behind_alone (is_unknown_action event.action) (begins_with_sys event.device.path) (is_stored_by_udev event) (is_behind_commands event)
-        event.action event.device.path (codes "USEC_INITIALIZED") (unwrap_or event.misplaced []))
+    by Udev = alone event kind
 
 -- where a property stands behind commands, that is so exactly if there is a parent
 pub behind_is : (event : EventValue) (name : Text) → event.misplaced ≡ Some name → (is_behind_commands event ≡ true) ↔ (event.parents ≢ [])
@@ -218,14 +152,6 @@ stored_is event = by (same_text event.action (codes "add")) refl (filled_is (val
     by true e filled = ((λ h. ((bytes_decides event.action (codes "add")).0 e, filled.0 h)), λ found. filled.1 found.1)
     by false e filled = ((λ h. absurd (true≢false (sym h))), λ found. absurd (true≢false (sym ((bytes_decides event.action (codes "add")).1 found.0) ∙ e)))
 
-pub event_notes : (event : EventValue) → notes_of NoSubsystem event ≡ note_if (so_by event.profile (lacks_event event)) NoSubsystem event.device.path
-unfolding block_notes
-event_notes event = by event.profile
-  where
-    by : (profile : Profile) → of_kind NoSubsystem (notes_by profile event) ≡ note_if (so_by profile (lacks_event event)) NoSubsystem event.device.path
-    by Manual = refl
-    by Udev = event_alone event
-
 -- by the manual every device has events
 pub lacks_is : (event : EventValue) → so_by event.profile (lacks_event event) ≡ lacks_event event
 unfolding lacks_event
@@ -235,25 +161,35 @@ lacks_is event = by event.profile
     by Manual = refl
     by Udev = refl
 
-pub in_order : (event : EventValue) → block_notes event ≡ notes_of UnknownAction event ++ notes_of PathBeginsWithSys event ++ notes_of StoredByUdev event ++ notes_of BehindCommands event ++ notes_of NoSubsystem event
+-- the attributes are gone exactly if the action is `remove` and there are some
+pub gone_is : (event : EventValue) → (has_gone_attributes event ≡ true) ↔ ((event.action ≡ codes "remove") × (event.device.attrs ≢ []))
+gone_is event = by (same_text event.action (codes "remove")) refl event.device.attrs
+  where
+    by : (same : Bool) → same_text event.action (codes "remove") ≡ same → (attrs : List Pair)
+        → ((same && not (is_empty attrs)) ≡ true) ↔ ((event.action ≡ codes "remove") × (attrs ≢ []))
+    by true e [] = ((λ h. absurd (true≢false (sym h))), λ found. absurd (found.1 refl))
+    by true e (pair ∷ attrs) = ((λ h. ((bytes_decides event.action (codes "remove")).0 e, λ empty. cc)), λ found. refl)
+    by false e attrs = ((λ h. absurd (true≢false (sym h))), λ found. absurd (true≢false (sym ((bytes_decides event.action (codes "remove")).1 found.0) ∙ e)))
+
+-- a text ends in a byte that follows it
+pub ends_so : (front : Text) → ends_in carriage_return (front ++ carriage_return ∷ []) ≡ true
+ends_so [] = refl
+ends_so (b ∷ front) =
+    let place : length (front ++ carriage_return ∷ []) ≡ suc (length front) = grind (arith, length-append {A = ℕ}) in
+    ap (λ (n : ℕ). slice_index (b ∷ (front ++ carriage_return ∷ [])) n == carriage_return) place
+    ∙ ap (λ (c : ℕ). c == carriage_return) (get_or-append_seam (b ∷ front) carriage_return [] 0)
+
+pub in_order : (event : EventValue) → block_notes event ≡ flat_map (λ kind. notes_of kind event) kinds
 unfolding block_notes
 in_order event = by event.profile
   where
-    by : (profile : Profile) → notes_by profile event ≡ of_kind UnknownAction (notes_by profile event) ++ of_kind PathBeginsWithSys (notes_by profile event) ++ of_kind StoredByUdev (notes_by profile event)
-        ++ of_kind BehindCommands (notes_by profile event) ++ of_kind NoSubsystem (notes_by profile event)
+    each : (ks : List BlockNoteKind) → flat_map (λ kind. of_kind kind (udev_notes event)) ks ≡ flat_map (due_note event) ks
+    each [] = refl
+    each (k ∷ ks) = λ i. alone event k i ++ each ks i
+
+    by : (profile : Profile) → notes_by profile event ≡ flat_map (λ kind. of_kind kind (notes_by profile event)) kinds
     by Manual = refl
-    by Udev =
-        let a = is_unknown_action event.action in
-        let b = begins_with_sys event.device.path in
-        let c = is_stored_by_udev event in
-        let d = is_behind_commands event in
-        let w = codes "USEC_INITIALIZED" in
-        let x = unwrap_or event.misplaced [] in
-        sym (λ i. among_five UnknownAction event _ refl (action_alone a b c d event.action event.device.path w x) i
-        ++ among_five PathBeginsWithSys event _ refl (path_alone a b c d event.action event.device.path w x) i
-        ++ among_five StoredByUdev event _ refl (stored_alone a b c d event.action event.device.path w x) i
-        ++ among_five BehindCommands event _ refl (behind_alone a b c d event.action event.device.path w x) i
-        ++ event_alone event i)
+    by Udev = sym (each kinds)
 
 pub none_by_the_manual : (event : EventValue) → event.profile ≡ Manual → block_notes event ≡ []
 unfolding block_notes

@@ -5,7 +5,8 @@ use Rattle.text_bytes.specs.Text.{Text}
 use Rattle.device_core.specs.Values.{EventValue}
 use Rattle.device_notes.specs.Notes.{block_notes}
 use Rattle.device_notes.specs.declared.kinds.BlockNoteKind.{BlockNoteKind}
-use Rattle.device_notes.specs.declared.kinds.BlockNoteKind.TheVariants.{BehindCommands, NoSubsystem, PathBeginsWithSys, StoredByUdev, UnknownAction}
+use Rattle.device_notes.specs.declared.kinds.BlockNoteKind.TheVariants.{BehindCommands, GoneAttributes, NoSubsystem, PathBeginsWithSys, ReturnAtEnds}
+use Rattle.device_notes.specs.declared.kinds.BlockNoteKind.TheVariants.{StoredByUdev, UnknownAction}
 use Rattle.device_notes.specs.declared.notes.BlockNote.{BlockNote}
 
 -- whether two kinds are the same
@@ -15,6 +16,8 @@ same_kind PathBeginsWithSys PathBeginsWithSys = true
 same_kind StoredByUdev StoredByUdev = true
 same_kind BehindCommands BehindCommands = true
 same_kind NoSubsystem NoSubsystem = true
+same_kind GoneAttributes GoneAttributes = true
+same_kind ReturnAtEnds ReturnAtEnds = true
 same_kind _ _ = false
 
 -- the notes of a kind about the block of an event

@@ -1,8 +1,9 @@
 -- Notes about a block: what in it udev would have been told otherwise, whatever the rules are. By the manual there are none.
-use Rattle.std.specs.Prelude.{Bool, false, not, ◌&&◌, if◌then◌else◌, nat_eq, List, [], ◌∷◌, ◌++◌, Option, Some, None, codes}
-use Rattle.std.specs.Prelude.{is_some, unwrap_or}
+use Rattle.std.specs.Prelude.{Bool, false, not, ◌&&◌, if◌then◌else◌, nat_eq, List, [], ◌∷◌, Option, Some, None, codes}
+use Rattle.std.specs.Prelude.{flat_map, is_some, unwrap_or}
 use Rattle.std.specs.List.{starts_with}
-use Rattle.text_bytes.specs.Texts.{is_empty, word_of}
+use Rattle.text_bytes.specs.Names.{carriage_return}
+use Rattle.text_bytes.specs.Texts.{ends_in, is_empty, word_of}
 use Rattle.text_bytes.specs.declared.profile.Profile.{Profile}
 use Rattle.text_bytes.specs.declared.profile.Profile.TheVariants.{Manual, Udev}
 use Rattle.text_bytes.specs.Text.{Text}
@@ -11,7 +12,8 @@ use Rattle.text_tables.specs.Pairs.{value_of}
 use Rattle.device_core.specs.Values.{EventValue}
 use Rattle.device_notes.specs.declared.kinds.BlockNoteKind.{BlockNoteKind}
 use Rattle.device_notes.specs.Tried.{lacks_event}
-use Rattle.device_notes.specs.declared.kinds.BlockNoteKind.TheVariants.{BehindCommands, NoSubsystem, PathBeginsWithSys, StoredByUdev, UnknownAction}
+use Rattle.device_notes.specs.declared.kinds.BlockNoteKind.TheVariants.{BehindCommands, GoneAttributes, NoSubsystem, PathBeginsWithSys, ReturnAtEnds}
+use Rattle.device_notes.specs.declared.kinds.BlockNoteKind.TheVariants.{StoredByUdev, UnknownAction}
 use Rattle.device_notes.specs.declared.notes.BlockNote.{BlockNote}
 
 -- the text of each kind of note
@@ -21,6 +23,8 @@ text_of PathBeginsWithSys = codes "path begins with /sys"
 text_of StoredByUdev = codes "stored by udev"
 text_of BehindCommands = codes "misplaced property"
 text_of NoSubsystem = codes "no subsystem, so no rule is tried"
+text_of GoneAttributes = codes "attributes of a removed device"
+text_of ReturnAtEnds = codes "carriage return at line ends"
 
 -- the actions that udev has, as udevadm(8) lists them for `trigger --action`
 abbrev pub actions : List Text
@@ -57,14 +61,41 @@ note_about kind text = record { kind = kind; word = word_of text }
 abbrev pub note_if : Bool → BlockNoteKind → Text → List BlockNote
 note_if is_so kind text = if is_so then note_about kind text ∷ [] else []
 
+-- whether the device of an event is removed, and the block has attributes of it: udev finds none once the device is gone
+abbrev pub has_gone_attributes : EventValue → Bool
+has_gone_attributes event = same_text event.action (codes "remove") && not (is_empty event.device.attrs)
+
+-- whether a note of a kind is due about the block of an event
+abbrev pub is_due : EventValue → BlockNoteKind → Bool
+is_due event UnknownAction = is_unknown_action event.action
+is_due event PathBeginsWithSys = begins_with_sys event.device.path
+is_due event StoredByUdev = is_stored_by_udev event
+is_due event BehindCommands = is_behind_commands event
+is_due event NoSubsystem = lacks_event event
+is_due event GoneAttributes = has_gone_attributes event
+is_due event ReturnAtEnds = ends_in carriage_return event.device.path
+
+-- the text that a note of a kind is about
+abbrev pub about : EventValue → BlockNoteKind → Text
+about event UnknownAction = event.action
+about event PathBeginsWithSys = event.device.path
+about event StoredByUdev = codes "USEC_INITIALIZED"
+about event BehindCommands = unwrap_or event.misplaced []
+about event NoSubsystem = event.device.path
+about event GoneAttributes = event.device.path
+about event ReturnAtEnds = event.device.path
+
+-- the kinds of notes, in their order
+abbrev pub kinds : List BlockNoteKind
+kinds = UnknownAction ∷ PathBeginsWithSys ∷ StoredByUdev ∷ BehindCommands ∷ NoSubsystem ∷ GoneAttributes ∷ ReturnAtEnds ∷ []
+
+-- the note of a kind about the block of an event, if it is due
+abbrev pub due_note : EventValue → BlockNoteKind → List BlockNote
+due_note event kind = note_if (is_due event kind) kind (about event kind)
+
 -- the notes about a block over which rules are evaluated as by udev
 abbrev pub udev_notes : EventValue → List BlockNote
-udev_notes event =
-    note_if (is_unknown_action event.action) UnknownAction event.action
-    ++ note_if (begins_with_sys event.device.path) PathBeginsWithSys event.device.path
-    ++ note_if (is_stored_by_udev event) StoredByUdev (codes "USEC_INITIALIZED")
-    ++ note_if (is_behind_commands event) BehindCommands (unwrap_or event.misplaced [])
-    ++ note_if (lacks_event event) NoSubsystem event.device.path
+udev_notes event = flat_map (due_note event) kinds
 
 -- the notes about a block by a profile
 abbrev pub notes_by : Profile → EventValue → List BlockNote

@@ -17,6 +17,11 @@ pub enum BlockNoteKind {
     BehindCommands,
     /// The event device has no subsystem, and so no event but a removal: no rule is tried; the word is its path.
     NoSubsystem,
+    /// The event is the removal of its device, and the block has attributes of it, of which udev finds none any more; the word is
+    /// the path of the device.
+    GoneAttributes,
+    /// The lines of the block end in a carriage return, which belongs to their values; the word is the path of the event device.
+    ReturnAtEnds,
 }
 
 impl BlockNoteKind {
@@ -30,6 +35,8 @@ impl BlockNoteKind {
             BlockNoteKind::StoredByUdev => b"stored by udev",
             BlockNoteKind::BehindCommands => b"misplaced property",
             BlockNoteKind::NoSubsystem => b"no subsystem, so no rule is tried",
+            BlockNoteKind::GoneAttributes => b"attributes of a removed device",
+            BlockNoteKind::ReturnAtEnds => b"carriage return at line ends",
         }
     }
 }

@@ -1,13 +1,16 @@
 //! What is true of the notes about a block. Each function here is empty: its contract is the law.
-ghost use Rattle.std.specs.Prelude.{◌≡◌, ◌≢◌, ◌↔◌, ◌⊎◌, ◌∷◌, ◌++◌, ℕ, [], List, None, Some, codes, unwrap_or};
+ghost use Rattle.std.specs.Prelude.{◌≡◌, ◌≢◌, ◌↔◌, ◌⊎◌, ◌∷◌, ◌++◌, ℕ, [], List, None, Some, codes, false, flat_map, unwrap_or};
 ghost use Rattle.text_bytes.specs.declared.profile.Profile.TheVariants.{Manual, Udev};
+ghost use Rattle.text_bytes.specs.Names.{carriage_return};
 ghost use Rattle.text_bytes.specs.Text.{Text};
+ghost use Rattle.text_bytes.specs.Texts.{ends_in};
 ghost use Rattle.text_tables.specs.Pairs.{value_of};
 ghost use Rattle.device_core.specs.Values.{EventValue};
 ghost use Rattle.device_notes.specs.Laws.{IsNoneOf, notes_of};
 ghost use Rattle.device_notes.specs.Notes.{block_notes, note_about};
 ghost use Rattle.device_notes.specs.Tried.{tried};
-ghost use Rattle.device_notes.specs.declared.kinds.BlockNoteKind.TheVariants.{BehindCommands, NoSubsystem, PathBeginsWithSys, StoredByUdev, UnknownAction};
+ghost use Rattle.device_notes.specs.declared.kinds.BlockNoteKind.TheVariants.{BehindCommands, GoneAttributes, NoSubsystem, PathBeginsWithSys};
+ghost use Rattle.device_notes.specs.declared.kinds.BlockNoteKind.TheVariants.{ReturnAtEnds, StoredByUdev, UnknownAction};
 
 /// For udev the action of a block is noted if and only if it is none of the eight that udev has, and then once.
 pub fn an_action_that_udev_does_not_have_is_noted()
@@ -67,13 +70,29 @@ pub fn a_device_without_an_event_is_noted()
     ensures none { (event : EventValue) (rule : ℕ) → tried event (rule ∷ []) ≢ [] → notes_of NoSubsystem event ≡ [] }
 {}
 
-/// The notes about a block are those of its action, of its path, of what udev stores, of properties behind commands and of a device
-/// without an event, in this order.
+/// For udev attributes of the event device are noted if and only if it is removed and the block has some, and then once, by its path.
+pub fn attributes_of_a_removed_device_are_noted()
+    ensures noted { (event : EventValue) → event.profile ≡ Udev
+        → (notes_of GoneAttributes event ≡ note_about GoneAttributes event.device.path ∷ [])
+        ↔ ((event.action ≡ codes "remove") × (event.device.attrs ≢ [])) }
+    ensures once { (event : EventValue)
+        → (notes_of GoneAttributes event ≡ []) ⊎ (notes_of GoneAttributes event ≡ note_about GoneAttributes event.device.path ∷ []) }
+{}
+
+/// For udev a path of the event device that ends in a carriage return is noted, once, and no other is.
+pub fn a_carriage_return_at_line_ends_is_noted()
+    ensures noted { (event : EventValue) (front : Text) → event.profile ≡ Udev → event.device.path ≡ front ++ carriage_return ∷ []
+        → notes_of ReturnAtEnds event ≡ note_about ReturnAtEnds event.device.path ∷ [] }
+    ensures none { (event : EventValue) → ends_in carriage_return event.device.path ≡ false → notes_of ReturnAtEnds event ≡ [] }
+{}
+
+/// The notes about a block are those of its action, of its path, of what udev stores, of properties behind commands, of a device without
+/// an event, of attributes that are gone, and of line ends, in this order.
 pub fn notes_about_a_block_are_in_order()
     ensures { (event : EventValue)
         → block_notes event
-        ≡ notes_of UnknownAction event ++ notes_of PathBeginsWithSys event ++ notes_of StoredByUdev event ++ notes_of BehindCommands event
-        ++ notes_of NoSubsystem event }
+        ≡ flat_map (λ kind. notes_of kind event) (UnknownAction ∷ PathBeginsWithSys ∷ StoredByUdev ∷ BehindCommands ∷ NoSubsystem
+        ∷ GoneAttributes ∷ ReturnAtEnds ∷ []) }
 {}
 
 /// By the manual nothing about a block is noted.

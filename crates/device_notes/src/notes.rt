@@ -1,13 +1,13 @@
 //! The notes about a block.
-ghost use Rattle.std.specs.Prelude.{◌≡◌, ◌++◌, IfOk, OnOk, option_map};
-ghost use Rattle.device_notes.specs.Notes.{actions, begins_with_sys, block_notes, is_behind_commands, is_filled};
-ghost use Rattle.device_notes.specs.Notes.{is_stored_by_udev, is_unknown_action, note_if, udev_notes};
+ghost use Rattle.std.specs.Prelude.{◌≡◌, ◌++◌, IfOk, OnOk, flat_map, option_map};
+ghost use Rattle.device_notes.specs.Notes.{about, begins_with_sys, block_notes, due_note, has_gone_attributes, is_behind_commands};
+ghost use Rattle.device_notes.specs.Notes.{is_due, is_filled, is_stored_by_udev, is_unknown_action, udev_notes};
 
 use crate::kinds::BlockNoteKind;
 use crate::trying::lacks_event;
 use device_core::Event;
 use std::alloc::{AllocError, Global};
-use text_bytes::{Bytes, Profile, word_of};
+use text_bytes::{Bytes, Profile, ends_in, word_of};
 use text_tables::is_among;
 
 /// The actions that udev has, as udevadm(8) lists them for `trigger --action`.
@@ -17,6 +17,17 @@ const ACTIONS: [&[u8]; 8] = [
 
 /// The property that udev stores of each device once it has handled the first event of it.
 const STORED: &[u8] = b"USEC_INITIALIZED";
+
+/// The kinds of notes, in their order.
+const KINDS: [BlockNoteKind; 7] = [
+    BlockNoteKind::UnknownAction,
+    BlockNoteKind::PathBeginsWithSys,
+    BlockNoteKind::StoredByUdev,
+    BlockNoteKind::BehindCommands,
+    BlockNoteKind::NoSubsystem,
+    BlockNoteKind::GoneAttributes,
+    BlockNoteKind::ReturnAtEnds,
+];
 
 /// A note about a block.
 #[derive(Drop)]
@@ -65,21 +76,71 @@ fn is_behind_commands(event: &Event<'_>) -> bool
     !event.parents().is_empty() && event.misplaced().is_some()
 }
 
-/// Adds a note about a text, if it is so.
-fn push_if(
-    alloc: Global,
-    notes: &mut Vec<BlockNote>,
-    is_so: bool,
-    kind: BlockNoteKind,
-    text: &[u8],
-) -> Result<(), AllocError>
-    ensures { OnOk result (notes.new.items ≡ notes.old.items ++ note_if is_so kind text.now) }
+/// Whether the device is removed, and the block has attributes of it.
+fn has_gone_attributes(event: &Event<'_>) -> bool
+    ensures { result ≡ has_gone_attributes event.now }
 {
-    if !is_so {
-        return Ok(());
+    event.action() == b"remove".as_slice() && event.device().attrs().len() != 0
+}
+
+/// Whether a note of a kind is due.
+fn is_due(event: &Event<'_>, kind: BlockNoteKind) -> bool
+    ensures { result ≡ is_due event.now kind }
+{
+    match kind {
+        BlockNoteKind::UnknownAction => is_unknown_action(event.action()),
+        BlockNoteKind::PathBeginsWithSys => begins_with_sys(event.device().path()),
+        BlockNoteKind::StoredByUdev => is_stored_by_udev(event),
+        BlockNoteKind::BehindCommands => is_behind_commands(event),
+        BlockNoteKind::NoSubsystem => lacks_event(event),
+        BlockNoteKind::GoneAttributes => has_gone_attributes(event),
+        BlockNoteKind::ReturnAtEnds => ends_in(b'\r', event.device().path()),
     }
-    let word = Bytes::copy_of(alloc, word_of(text))?;
-    notes.push(BlockNote { kind, word })?;
+}
+
+/// The text that a note of a kind is about.
+fn about<'a>(event: &Event<'a>, kind: BlockNoteKind) -> &'a [u8]
+    ensures { result.now ≡ about event.now kind }
+{
+    match kind {
+        BlockNoteKind::UnknownAction => event.action(),
+        BlockNoteKind::StoredByUdev => STORED,
+        BlockNoteKind::BehindCommands => event.misplaced().unwrap_or(b""),
+        BlockNoteKind::PathBeginsWithSys
+        | BlockNoteKind::NoSubsystem
+        | BlockNoteKind::GoneAttributes
+        | BlockNoteKind::ReturnAtEnds => event.device().path(),
+    }
+}
+
+/// Adds the note of a kind, if it is due.
+fn push_due(
+    alloc: Global,
+    event: &Event<'_>,
+    kind: BlockNoteKind,
+    notes: &mut Vec<BlockNote>,
+) -> Result<(), AllocError>
+    ensures { OnOk result (notes.new.items ≡ notes.old.items ++ due_note event.now kind) }
+{
+    if is_due(event, kind) {
+        let word = Bytes::copy_of(alloc, word_of(about(event, kind)))?;
+        notes.push(BlockNote { kind, word })?;
+    }
+    Ok(())
+}
+
+/// Adds those notes of these kinds that are due.
+fn push_each_due(
+    alloc: Global,
+    event: &Event<'_>,
+    kinds: &[BlockNoteKind],
+    notes: &mut Vec<BlockNote>,
+) -> Result<(), AllocError>
+    ensures { OnOk result (notes.new.items ≡ notes.old.items ++ flat_map (due_note event.now) kinds.now) }
+{
+    for kind in kinds {
+        push_due(alloc, event, *kind, notes)?;
+    }
     Ok(())
 }
 
@@ -87,45 +148,8 @@ fn push_if(
 fn udev_notes(alloc: Global, event: &Event<'_>) -> Result<Vec<BlockNote>, AllocError>
     ensures { IfOk result (λ notes. notes.items ≡ udev_notes event.now) }
 {
-    let action = event.action();
-    let path = event.device().path();
-    let is_stored = is_stored_by_udev(event);
     let mut notes = Vec::new(alloc);
-    push_if(
-        alloc,
-        &mut notes,
-        is_unknown_action(action),
-        BlockNoteKind::UnknownAction,
-        action,
-    )?;
-    push_if(
-        alloc,
-        &mut notes,
-        begins_with_sys(path),
-        BlockNoteKind::PathBeginsWithSys,
-        path,
-    )?;
-    push_if(
-        alloc,
-        &mut notes,
-        is_stored,
-        BlockNoteKind::StoredByUdev,
-        STORED,
-    )?;
-    push_if(
-        alloc,
-        &mut notes,
-        is_behind_commands(event),
-        BlockNoteKind::BehindCommands,
-        event.misplaced().unwrap_or(b""),
-    )?;
-    push_if(
-        alloc,
-        &mut notes,
-        lacks_event(event),
-        BlockNoteKind::NoSubsystem,
-        path,
-    )?;
+    push_each_due(alloc, event, &KINDS, &mut notes)?;
     Ok(notes)
 }
 

@@ -48,7 +48,7 @@ use Rattle.eval_state.specs.Scenes.{noted, with_env}
 use Rattle.eval_state.specs.declared.finals.FinalKey.{FinalKey}
 use Rattle.eval_state.specs.declared.finals.FinalKey.TheVariants as final
 use Rattle.eval_state.specs.declared.note_kind.NoteKind.{NoteKind}
-use Rattle.eval_state.specs.declared.note_kind.NoteKind.TheVariants.{AttributeNotRead, BadHwdbArguments, BuiltinNeeds, BuiltinNotRun, ConstantNotGiven, ImportNotRun, NameIgnored, SysctlNotRead, TestNotMade, TextTooLong, AttributeGone}
+use Rattle.eval_state.specs.declared.note_kind.NoteKind.TheVariants.{AttributeNotRead, BadHwdbArguments, BuiltinNeeds, BuiltinNotRun, ConstantNotGiven, ImportNotRun, NameIgnored, SysctlNotRead, TestNotMade, TextTooLong}
 use Rattle.eval_state.specs.declared.scene.Scene.{Scene}
 use Rattle.eval_acts.specs.Acts.{imported, on_text}
 use Rattle.eval_acts.specs.Inner.{left}
@@ -59,7 +59,7 @@ use Rattle.eval_acts.specs.Imports.{builtin_run, from_answer_or_noted, from_pare
 use Rattle.eval_acts.specs.Printed.{printed_properties}
 use Rattle.eval_commands.specs.Builtins.{builtin_question}
 use Rattle.eval_acts.specs.Questions.{is_somewhere, tested, tested_at, tested_by, tested_by_udev, tested_here}
-use Rattle.eval_acts.specs.Reaching.{is_gone_by, match_reached}
+use Rattle.eval_acts.specs.Reaching.{match_reached}
 use Rattle.eval_commands.specs.declared.builtin.Builtin.{Builtin}
 use Rattle.eval_commands.specs.declared.builtin.Builtin.TheVariants as builtin
 use Rattle.eval_matching.specs.Attributes.{is_not_read}
@@ -177,12 +177,11 @@ imported_quiet Udev known r d i s m = absurd (cc)
 
 reached_quiet : (r : Rule) (k : PlainKey) (s : Scene) → Quiet s (match_reached r k s)
 reached_quiet r (plain.Sysctl name) s = note_quiet r SysctlNotRead name s refl
-reached_quiet r (plain.Attr name) s = by (is_not_read name s.state.event) (is_gone_by s.state.event.profile name s.state.event)
+reached_quiet r (plain.Attr name) s = by (is_not_read name s.state.event)
   where
-    by : (b c : Bool) → Quiet s (cond b (noted r AttributeNotRead name s) (cond c (noted r AttributeGone name s) s))
-    by true c = note_quiet r AttributeNotRead name s refl
-    by false true = note_quiet r AttributeGone name s refl
-    by false false = refl
+    by : (b : Bool) → Quiet s (cond b (noted r AttributeNotRead name s) s)
+    by true = note_quiet r AttributeNotRead name s refl
+    by false = refl
 reached_quiet r (plain.Const name) s = by (is_not_given name s.state.event)
   where
     by : (b : Bool) → Quiet s (cond b (noted r ConstantNotGiven name s) s)

@@ -104,6 +104,13 @@ fn is_asked(asked: &[u8], word: &[u8]) -> bool
     }
 }
 
+/// Whether one of these words is the one that is asked for.
+fn any_asked(asked: &[u8], words: &[Bytes]) -> bool
+    ensures { result ≡ list_any (is_asked asked.now) words.now }
+{
+    words.iter().any(|word| is_asked(asked, word.as_slice()))
+}
+
 /// Whether the kernel's command line has a word, as KernelCommandLine of systemd.link(5) asks for it: `NAME=VALUE` is asked for as it
 /// is, `NAME` with any value or without one. The line is split into words as the command of a builtin is.
 #[tactic(auto, unfolding(crate::specs::Cmdline::has_word))]
@@ -111,5 +118,5 @@ pub fn has_word(alloc: Global, asked: &[u8], line: &[u8]) -> Result<bool, AllocE
     ensures { IfOk result (λ has. has ≡ has_word asked.now line.now) }
 {
     let words = udev_words(alloc, line)?;
-    Ok(words.iter().any(|word| is_asked(asked, word.as_slice())))
+    Ok(any_asked(asked, &words))
 }

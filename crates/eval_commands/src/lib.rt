@@ -14,6 +14,8 @@ mod words;
 pub use builtin::{Builtin, builtin_question};
 pub use cmdline::{cmdline_value, has_word};
 pub use hwdb::Hwdb;
-pub use laws::a_modalias_is_looked_up_whatever_device_is_named;
+pub use laws::{
+    a_modalias_is_looked_up_whatever_device_is_named, a_word_is_asked_for_by_its_name_or_as_it_is,
+};
 pub use request::{Request, other_name, request_of};
 pub use words::is_quote;

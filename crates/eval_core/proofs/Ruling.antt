@@ -30,14 +30,14 @@ use Rattle.eval_state.specs.Chains.{kernel_of}
 use Rattle.eval_state.specs.Texts.{or_empty}
 use Rattle.text_bytes.specs.Texts.{trimmed}
 use Rattle.eval_state.specs.Scenes.{noted}
-use Rattle.eval_state.specs.declared.note_kind.NoteKind.TheVariants.{AttributeGone, AttributeNotRead}
+use Rattle.eval_state.specs.declared.note_kind.NoteKind.TheVariants.{AttributeNotRead}
 use Rattle.eval_matching.specs.Attributes.{attribute_by, is_not_read, is_not_read_by, value_by}
 use Rattle.eval_matching.specs.Holding.{agrees, attribute, ends_in_whitespace, holds, is_whitespace_item, one}
 use Rattle.eval_matching.specs.Subjects.{plain_subject, subsystem_by}
 use Rattle.eval_matching.specs.Udev.{passes}
 use Rattle.eval_state.specs.declared.scene.Scene.{Scene}
 use Rattle.eval_acts.specs.Acts.{act_step}
-use Rattle.eval_acts.specs.Reaching.{is_gone_by, match_reached}
+use Rattle.eval_acts.specs.Reaching.{match_reached}
 use Rattle.eval_rules.specs.Steps.{if_proceeding, plain_step, result_step, search, set_all, steps, walk}
 use Rattle.eval_core.specs.Checks.{after_others, attribute_seen, check_by, check_in, check_of, choice_check, differs, equal_check, first_attribute_slot, head_slot, is_other, is_ruled_out, seen, slot_of}
 use Rattle.eval_core.specs.declared.checks.Check.{Check}
@@ -119,8 +119,7 @@ nothing_known h = absurd (true≢false (sym h))
 -- by the manual an attribute that is reached leaves nothing
 attribute_reached : (r : Rule) (name : Text) (s : Scene) → s.state.event.profile ≡ Manual → match_reached r (plain.Attr name) s ≡ s
 unfolding is_not_read
-attribute_reached r name s manual =
-    ap (λ by. cond (is_not_read_by by name s.state.event) (noted r AttributeNotRead name s) (cond (is_gone_by by name s.state.event) (noted r AttributeGone name s) s)) manual
+attribute_reached r name s manual = ap (λ by. cond (is_not_read_by by name s.state.event) (noted r AttributeNotRead name s) s) manual
 
 module _ (names : List Text) (r : Rule) (s : Scene) (manual : s.state.event.profile ≡ Manual) where
   text_ruled : (slot : ℕ) (text : Text) (wanted : Comparison) → slice_get (seen names s.state.event) slot ≡ Some (Some (sketch text)) → (o : Option ℕ) → exact_sketch wanted.choice ≡ o

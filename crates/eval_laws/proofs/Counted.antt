@@ -24,12 +24,12 @@ use Rattle.eval_state.specs.Runs.{RunValue}
 use Rattle.eval_state.specs.Scenes.{noted, start}
 use Rattle.eval_state.specs.declared.notes.Note.{Note}
 use Rattle.eval_state.specs.declared.note_kind.NoteKind.{NoteKind}
-use Rattle.eval_state.specs.declared.note_kind.NoteKind.TheVariants.{AttributeNotRead, ConstantNotGiven, SysctlNotRead, AttributeGone}
+use Rattle.eval_state.specs.declared.note_kind.NoteKind.TheVariants.{AttributeNotRead, ConstantNotGiven, SysctlNotRead}
 use Rattle.eval_state.specs.declared.scene.Scene.{Scene}
 use Rattle.eval_acts.specs.Acts.{act_step}
 use Rattle.eval_matching.specs.Attributes.{is_not_read}
 use Rattle.eval_matching.specs.Subjects.{is_not_given}
-use Rattle.eval_acts.specs.Reaching.{is_gone_by, match_reached}
+use Rattle.eval_acts.specs.Reaching.{match_reached}
 use Rattle.eval_assignments.specs.Steps.{set_step}
 use Rattle.eval_rules.specs.Jumps.{is_passed, run, sought_after}
 use Rattle.eval_rules.specs.Outcomes.{late_note, late_notes, outcome, outcome_of, run_text}
@@ -85,12 +85,11 @@ module _ (w : Note → ℕ) (v : RunValue → ℕ) (c : Rule → ℕ) (light : (
     reached_counts plain.Name s = omega arith
     reached_counts plain.Symlink s = omega arith
     reached_counts plain.Tag s = omega arith
-    reached_counts (plain.Attr name) s = by (is_not_read name s.state.event) (is_gone_by s.state.event.profile name s.state.event)
+    reached_counts (plain.Attr name) s = by (is_not_read name s.state.event)
       where
-        by : (b c : Bool) → counted (if b then noted r AttributeNotRead name s else if c then noted r AttributeGone name s else s) ≤ counted s + c r
-        by true c = noted_more w v c light r s AttributeNotRead name
-        by false true = noted_more w v c light r s AttributeGone name
-        by false false = omega arith
+        by : (b : Bool) → counted (if b then noted r AttributeNotRead name s else s) ≤ counted s + c r
+        by true = noted_more w v c light r s AttributeNotRead name
+        by false = omega arith
     reached_counts (plain.Env name) s = omega arith
     reached_counts (plain.Const name) s = by (is_not_given name s.state.event)
       where

@@ -35,7 +35,7 @@ use Rattle.eval_state.specs.Named.{NamedValue, named, named_place}
 use Rattle.eval_state.specs.Properties.{properties_set}
 use Rattle.eval_state.specs.Scenes.{noted, with_env}
 use Rattle.eval_state.specs.declared.note_kind.NoteKind.{NoteKind}
-use Rattle.eval_state.specs.declared.note_kind.NoteKind.TheVariants.{AttributeNotRead, BuiltinNotRun, ConstantNotGiven, ImportNotRun, NoAnswer, TestNotMade, TextTooLong, AttributeGone}
+use Rattle.eval_state.specs.declared.note_kind.NoteKind.TheVariants.{AttributeNotRead, BuiltinNotRun, ConstantNotGiven, ImportNotRun, NoAnswer, TestNotMade, TextTooLong}
 use Rattle.eval_rendering.specs.Bounds.{most_command_bytes, most_path_bytes}
 use Rattle.eval_rendering.specs.declared.rendered.Rendered.{Rendered}
 use Rattle.eval_rendering.specs.declared.rendered.Rendered.TheVariants as rendered
@@ -62,7 +62,7 @@ use Rattle.eval_lookups.specs.LookUpNeeds.{lookup_needs}
 use Rattle.eval_lookups.specs.LookUps.{found}
 use Rattle.eval_acts.specs.Printed.{printed_properties}
 use Rattle.eval_acts.specs.Questions.{answered_by_block, answered_or_noted, is_somewhere, result_of, tested, tested_at, tested_by, tested_by_udev, tested_here, with_result}
-use Rattle.eval_acts.specs.Reaching.{is_gone_by, match_reached}
+use Rattle.eval_acts.specs.Reaching.{match_reached}
 use Rattle.eval_laws.specs.AssignmentLaws.{Keeps, SameAt}
 use Rattle.eval_assignments.specs.Steps.{set_step}
 use Rattle.eval_laws.proofs.KeptParts.{value, itself, same_notes}
@@ -260,12 +260,11 @@ act_same known r act s = late_same r act.kind (performed known r act.kind s).1 s
 
 reached_same : (r : Rule) (k : PlainKey) (s : Scene) → Same s (match_reached r k s)
 reached_same r (plain.Sysctl name) s = refl
-reached_same r (plain.Attr name) s = by (is_not_read name s.state.event) (is_gone_by s.state.event.profile name s.state.event)
+reached_same r (plain.Attr name) s = by (is_not_read name s.state.event)
   where
-    by : (b c : Bool) → Same s (cond b (noted r AttributeNotRead name s) (cond c (noted r AttributeGone name s) s))
-    by true c = refl
-    by false true = refl
-    by false false = refl
+    by : (b : Bool) → Same s (cond b (noted r AttributeNotRead name s) s)
+    by true = refl
+    by false = refl
 reached_same r (plain.Const name) s = by (is_not_given name s.state.event)
   where
     by : (b : Bool) → Same s (cond b (noted r ConstantNotGiven name s) s)

@@ -12,7 +12,7 @@ use Rattle.rule_types.specs.Names.{run_name}
 use Rattle.eval_laws.specs.DeviceWeights.{given_weight, pair_weight, text_weight}
 use Rattle.eval_state.specs.Notes.{text_of}
 use Rattle.eval_state.specs.declared.note_kind.NoteKind.{NoteKind}
-use Rattle.eval_state.specs.declared.note_kind.NoteKind.TheVariants.{ImportNotRun, BuiltinNotRun, BadHwdbArguments, NoAnswer, TestNotMade, SysctlNotRead, TextTooLong, NameIgnored, NoDeviceNumber, NoValue, LinkIgnored, ModeIgnored, TagIgnored, AttributeNotRead, AttributeNotFound, BuiltinNeeds, ConstantNotGiven, AttributeGone}
+use Rattle.eval_state.specs.declared.note_kind.NoteKind.TheVariants.{ImportNotRun, BuiltinNotRun, BadHwdbArguments, NoAnswer, TestNotMade, SysctlNotRead, TextTooLong, NameIgnored, NoDeviceNumber, NoValue, LinkIgnored, ModeIgnored, TagIgnored, AttributeNotRead, AttributeNotFound, BuiltinNeeds, ConstantNotGiven}
 use Rattle.eval_state.specs.declared.notes.Note.{Note}
 use Rattle.eval_rules.specs.declared.outcome.Command.{Command}
 use Rattle.eval_laws.specs.Weights.{command_weight, note_weight}
@@ -122,7 +122,6 @@ kind_long AttributeNotRead = omega arith
 kind_long AttributeNotFound = omega arith
 kind_long BuiltinNeeds = omega arith
 kind_long ConstantNotGiven = omega arith
-kind_long AttributeGone = omega arith
 
 pub word_short : (word : Text) → length (word_part word) ≤ 4 * length word + 2
 word_short word = by (length word == 0)

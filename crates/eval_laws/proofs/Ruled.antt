@@ -18,10 +18,10 @@ use Rattle.rule_types.specs.declared.part.UpMatch.{UpMatch}
 use Rattle.rule_types.specs.Rules.{Rule}
 use Rattle.device_core.specs.Values.{EventValue}
 use Rattle.eval_laws.specs.DeviceWeights.{event_weight}
-use Rattle.eval_state.specs.declared.note_kind.NoteKind.TheVariants.{AttributeNotRead, ConstantNotGiven, SysctlNotRead, AttributeGone}
+use Rattle.eval_state.specs.declared.note_kind.NoteKind.TheVariants.{AttributeNotRead, ConstantNotGiven, SysctlNotRead}
 use Rattle.eval_state.specs.declared.scene.Scene.{Scene}
 use Rattle.eval_acts.specs.Acts.{act_step}
-use Rattle.eval_acts.specs.Reaching.{is_gone_by, match_reached}
+use Rattle.eval_acts.specs.Reaching.{match_reached}
 use Rattle.eval_matching.specs.Attributes.{is_not_read}
 use Rattle.eval_matching.specs.Subjects.{is_not_given}
 use Rattle.eval_state.specs.Scenes.{noted}
@@ -70,12 +70,11 @@ module _ (event : EventValue) where
     reached_within plain.Name n s h = more event n (n + (length r.file + 280)) s (omega arith) h
     reached_within plain.Symlink n s h = more event n (n + (length r.file + 280)) s (omega arith) h
     reached_within plain.Tag n s h = more event n (n + (length r.file + 280)) s (omega arith) h
-    reached_within (plain.Attr name) n s h = by (is_not_read name s.state.event) (is_gone_by s.state.event.profile name s.state.event)
+    reached_within (plain.Attr name) n s h = by (is_not_read name s.state.event)
       where
-        by : (b c : Bool) → Within event (n + (length r.file + 280)) (if b then noted r AttributeNotRead name s else if c then noted r AttributeGone name s else s)
-        by true c = noted_within event n r AttributeNotRead name s h
-        by false true = noted_within event n r AttributeGone name s h
-        by false false = more event n (n + (length r.file + 280)) s (omega arith) h
+        by : (b : Bool) → Within event (n + (length r.file + 280)) (if b then noted r AttributeNotRead name s else s)
+        by true = noted_within event n r AttributeNotRead name s h
+        by false = more event n (n + (length r.file + 280)) s (omega arith) h
     reached_within (plain.Env name) n s h = more event n (n + (length r.file + 280)) s (omega arith) h
     reached_within (plain.Const name) n s h = by (is_not_given name s.state.event)
       where

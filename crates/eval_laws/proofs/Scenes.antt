@@ -12,7 +12,7 @@ use Rattle.eval_laws.specs.DeviceWeights.{text_weight}
 use Rattle.eval_state.specs.Notes.{kept_word, note_about, text_of}
 use Rattle.eval_state.specs.Scenes.{noted}
 use Rattle.eval_state.specs.declared.note_kind.NoteKind.{NoteKind}
-use Rattle.eval_state.specs.declared.note_kind.NoteKind.TheVariants.{ImportNotRun, BuiltinNotRun, BadHwdbArguments, NoAnswer, TestNotMade, SysctlNotRead, TextTooLong, NameIgnored, NoDeviceNumber, NoValue, LinkIgnored, ModeIgnored, TagIgnored, AttributeNotRead, AttributeNotFound, BuiltinNeeds, ConstantNotGiven, AttributeGone}
+use Rattle.eval_state.specs.declared.note_kind.NoteKind.TheVariants.{ImportNotRun, BuiltinNotRun, BadHwdbArguments, NoAnswer, TestNotMade, SysctlNotRead, TextTooLong, NameIgnored, NoDeviceNumber, NoValue, LinkIgnored, ModeIgnored, TagIgnored, AttributeNotRead, AttributeNotFound, BuiltinNeeds, ConstantNotGiven}
 use Rattle.eval_state.specs.declared.scene.Scene.{Scene}
 use Rattle.eval_acts.specs.BuiltinRuns.{most_set}
 use Rattle.eval_laws.specs.Allowances.{builtin_allowance}
@@ -41,7 +41,6 @@ kind_light AttributeNotRead = omega arith
 kind_light AttributeNotFound = omega arith
 kind_light BuiltinNeeds = omega arith
 kind_light ConstantNotGiven = omega arith
-kind_light AttributeGone = omega arith
 
 -- the first bytes of a text
 first_light : (most : ℕ) (text : Text) → most ≤ 256 → length (take most text) ≤ 256
@@ -65,7 +64,6 @@ word_light AttributeNotRead text = first_light 32 text (omega arith)
 word_light AttributeNotFound text = first_light 32 text (omega arith)
 word_light BuiltinNeeds text = first_light 256 text (omega arith)
 word_light ConstantNotGiven text = first_light 32 text (omega arith)
-word_light AttributeGone text = first_light 32 text (omega arith)
 
 -- a note about a rule
 pub note_light : (r : Rule) (kind : NoteKind) (text : Text) → note_weight (note_about r kind text) ≤ length r.file + 280

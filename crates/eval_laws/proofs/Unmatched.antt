@@ -12,11 +12,11 @@ use Rattle.eval_matching.specs.Subjects.{plain_subject}
 use Rattle.eval_state.specs.declared.notes.Note.{Note}
 use Rattle.eval_state.specs.declared.scene.Scene.{Scene}
 use Rattle.eval_acts.specs.Acts.{act_step}
-use Rattle.eval_acts.specs.Reaching.{is_gone_by, match_reached}
+use Rattle.eval_acts.specs.Reaching.{match_reached}
 use Rattle.eval_matching.specs.Attributes.{is_not_read}
 use Rattle.eval_matching.specs.Subjects.{is_not_given}
 use Rattle.eval_state.specs.Scenes.{noted}
-use Rattle.eval_state.specs.declared.note_kind.NoteKind.TheVariants.{AttributeNotRead, ConstantNotGiven, AttributeGone}
+use Rattle.eval_state.specs.declared.note_kind.NoteKind.TheVariants.{AttributeNotRead, ConstantNotGiven}
 use Rattle.eval_rules.specs.Idle.{is_idle}
 use Rattle.eval_rules.specs.Steps.{Went, apply, if_proceeding, only_noted, plain_step, result_step, search, set_all, steps, walk}
 use Rattle.eval_rules.specs.Jumps.{run, sought_after}
@@ -32,12 +32,11 @@ all_hold state parts = list_all (λ part. holds (plain_subject part.key state) p
 
 reached_same : (r : Rule) (k : PlainKey) (notes : List Note) (s : Scene) → noting notes (match_reached r k s) ≡ noting notes s
 reached_same r (plain.Sysctl name) notes s = refl
-reached_same r (plain.Attr name) notes s = by (is_not_read name s.state.event) (is_gone_by s.state.event.profile name s.state.event)
+reached_same r (plain.Attr name) notes s = by (is_not_read name s.state.event)
   where
-    by : (b c : Bool) → noting notes (cond b (noted r AttributeNotRead name s) (cond c (noted r AttributeGone name s) s)) ≡ noting notes s
-    by true c = refl
-    by false true = refl
-    by false false = refl
+    by : (b : Bool) → noting notes (cond b (noted r AttributeNotRead name s) s) ≡ noting notes s
+    by true = refl
+    by false = refl
 reached_same r (plain.Const name) notes s = by (is_not_given name s.state.event)
   where
     by : (b : Bool) → noting notes (cond b (noted r ConstantNotGiven name s) s) ≡ noting notes s

@@ -29,4 +29,4 @@ outcome_weight o =
 -- how many bytes the lines of notes about a block have at most, by a profile: by the manual there are none
 abbrev pub most_about_a_block : Profile → ℕ
 most_about_a_block Manual = 0
-most_about_a_block Udev = 840
+most_about_a_block Udev = 1176

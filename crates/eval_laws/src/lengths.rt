@@ -15,7 +15,7 @@ ghost use Rattle.eval_laws.specs.Weights.{most_about_a_block, outcome_weight};
 ghost use Rattle.engine_answers.specs.Answers.{answer};
 
 /// The answer to an event that a block gives has at most eight times the weight of the event's whole outcome, four times
-/// the length of the block, and 64 bytes, for udev 840 more, as there are notes about the block. That holds by the
+/// the length of the block, and 64 bytes, for udev 1,176 more, as there are notes about the block. That holds by the
 /// rules of any files, read and evaluated by either profile, whatever a database and the builtins say, and for every
 /// other outcome whose priority, if it has one, is a number of 32 bits.
 pub fn an_answer_is_no_longer_than_its_weight()

@@ -32,7 +32,7 @@ pub fn what_the_block_has_is_read()
 
 /// What udev reads for a device of the subsystem `m` with the attributes `q/a/x` and `q/b/y`, below one with the attribute
 /// `v`, which is in the top folder; and which of the names lead to what the block does not tell.
-#[tactic(auto, unfolding(crate::specs::Paths::led_place, crate::specs::Paths::is_unread))]
+#[tactic(auto, unfolding(crate::specs::Paths::led_place, crate::specs::Paths::is_unread, text_bytes::specs::Texts::split_once))]
 pub fn some_names_of_attributes()
     ensures own { read_value with_folders with_folders.device (codes "q/b/y") ≡ Some (codes "6") }
     ensures here { read_value with_folders with_folders.device (codes "./q/b/y") ≡ Some (codes "6") }

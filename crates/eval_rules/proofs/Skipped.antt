@@ -37,12 +37,12 @@ use Rattle.eval_state.specs.Notes.{word_of_key}
 use Rattle.eval_state.specs.Scenes.{noted, noted_key}
 use Rattle.eval_state.specs.declared.finals.FinalKey.{FinalKey}
 use Rattle.eval_state.specs.declared.finals.FinalKey.TheVariants.{Name}
-use Rattle.eval_state.specs.declared.note_kind.NoteKind.TheVariants.{AttributeNotRead, ConstantNotGiven, NameIgnored, NoDeviceNumber, TestNotMade, TextTooLong, AttributeGone}
+use Rattle.eval_state.specs.declared.note_kind.NoteKind.TheVariants.{AttributeNotRead, ConstantNotGiven, NameIgnored, NoDeviceNumber, TestNotMade, TextTooLong}
 use Rattle.eval_state.specs.declared.scene.Scene.{Scene}
 use Rattle.eval_acts.specs.Acts.{act_step, on_text, performed}
 use Rattle.eval_acts.specs.Inner.{left}
 use Rattle.eval_acts.specs.Questions.{is_somewhere, tested, tested_at, tested_by, tested_by_udev, tested_here}
-use Rattle.eval_acts.specs.Reaching.{is_gone_by, match_reached}
+use Rattle.eval_acts.specs.Reaching.{match_reached}
 use Rattle.eval_assignments.specs.Assigning.{assigned}
 use Rattle.eval_assignments.specs.Bounds.{most_bytes_of}
 use Rattle.eval_assignments.specs.Escapes.{escape_of, mode_of}
@@ -89,12 +89,11 @@ walk_still step h (p ∷ ps) s = if_proceeding_still (walk step ps) (walk_still 
 
 reached_still : (r : Rule) (k : PlainKey) (s : Scene) → Still s (match_reached r k s)
 reached_still r (plain.Sysctl name) s = refl
-reached_still r (plain.Attr name) s = by (is_not_read name s.state.event) (is_gone_by s.state.event.profile name s.state.event)
+reached_still r (plain.Attr name) s = by (is_not_read name s.state.event)
   where
-    by : (b c : Bool) → Still s (cond b (noted r AttributeNotRead name s) (cond c (noted r AttributeGone name s) s))
-    by true c = refl
-    by false true = refl
-    by false false = refl
+    by : (b : Bool) → Still s (cond b (noted r AttributeNotRead name s) s)
+    by true = refl
+    by false = refl
 reached_still r (plain.Const name) s = by (is_not_given name s.state.event)
   where
     by : (b : Bool) → Still s (cond b (noted r ConstantNotGiven name s) s)

@@ -45,7 +45,7 @@ use Rattle.eval_state.specs.Named.{NamedValue, named, named_place}
 use Rattle.eval_state.specs.Properties.{properties_set}
 use Rattle.eval_state.specs.Scenes.{noted, with_env}
 use Rattle.eval_state.specs.declared.note_kind.NoteKind.{NoteKind}
-use Rattle.eval_state.specs.declared.note_kind.NoteKind.TheVariants.{AttributeNotRead, BuiltinNotRun, ConstantNotGiven, NoAnswer, TestNotMade, TextTooLong, AttributeGone}
+use Rattle.eval_state.specs.declared.note_kind.NoteKind.TheVariants.{AttributeNotRead, BuiltinNotRun, ConstantNotGiven, NoAnswer, TestNotMade, TextTooLong}
 use Rattle.eval_state.specs.declared.scene.Scene.{Scene}
 use Rattle.eval_acts.specs.Acts.{act_step, command_reached, from_parent_by, import_reached, imported, on_text, performed, too_long_noted}
 use Rattle.eval_acts.specs.BuiltinRuns.{looked_up, most_set, needs_noted, outcome_set, outcome_taken, path_id_run, properties_size, usb_id_run, with_maker}
@@ -56,7 +56,7 @@ use Rattle.eval_lookups.specs.LookUpNeeds.{lookup_needs}
 use Rattle.eval_lookups.specs.LookUps.{found}
 use Rattle.eval_acts.specs.Printed.{printed_properties}
 use Rattle.eval_acts.specs.Questions.{answered_by_block, answered_or_noted, is_somewhere, result_of, tested, tested_at, tested_by, tested_by_udev, tested_here, with_result}
-use Rattle.eval_acts.specs.Reaching.{is_gone_by, match_reached}
+use Rattle.eval_acts.specs.Reaching.{match_reached}
 use Rattle.eval_assignments.specs.Steps.{set_step}
 use Rattle.eval_rules.specs.Idle.{change_applies, is_idle, note_step}
 use Rattle.eval_rules.specs.Steps.{Went, apply, only_noted, if_proceeding, plain_step, result_step, search, set_all, steps, before_sets, walk}
@@ -211,12 +211,11 @@ act_stays known r act s = late_stays r act.kind (performed known r act.kind s).1
 -- a match that is reached
 pub reached_stays : (r : Rule) (k : PlainKey) (s : Scene) → Stays s (match_reached r k s)
 reached_stays r (plain.Sysctl name) s = refl
-reached_stays r (plain.Attr name) s = by (is_not_read name s.state.event) (is_gone_by s.state.event.profile name s.state.event)
+reached_stays r (plain.Attr name) s = by (is_not_read name s.state.event)
   where
-    by : (b c : Bool) → Stays s (cond b (noted r AttributeNotRead name s) (cond c (noted r AttributeGone name s) s))
-    by true c = refl
-    by false true = refl
-    by false false = refl
+    by : (b : Bool) → Stays s (cond b (noted r AttributeNotRead name s) s)
+    by true = refl
+    by false = refl
 reached_stays r (plain.Const name) s = by (is_not_given name s.state.event)
   where
     by : (b : Bool) → Stays s (cond b (noted r ConstantNotGiven name s) s)

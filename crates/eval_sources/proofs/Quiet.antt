@@ -13,10 +13,10 @@ use Rattle.rule_types.specs.Rules.{Rule}
 use Rattle.eval_matching.specs.Attributes.{is_not_read}
 use Rattle.eval_matching.specs.Subjects.{is_not_given}
 use Rattle.eval_state.specs.Scenes.{noted}
-use Rattle.eval_state.specs.declared.note_kind.NoteKind.TheVariants.{AttributeNotRead, ConstantNotGiven, AttributeGone}
+use Rattle.eval_state.specs.declared.note_kind.NoteKind.TheVariants.{AttributeNotRead, ConstantNotGiven}
 use Rattle.eval_state.specs.declared.scene.Scene.{Scene}
 use Rattle.eval_acts.specs.Acts.{act_step}
-use Rattle.eval_acts.specs.Reaching.{is_gone_by, match_reached}
+use Rattle.eval_acts.specs.Reaching.{match_reached}
 use Rattle.eval_assignments.specs.Steps.{set_step}
 use Rattle.eval_rules.specs.Idle.{is_idle}
 use Rattle.eval_rules.specs.Steps.{Went, apply, only_noted, if_proceeding, plain_step, result_step, search, set_all, steps, before_sets, walk, with_selected}
@@ -34,12 +34,11 @@ items_quiet s = refl
 
 reached_quiet : (r : Rule) (k : PlainKey) (s : Scene) → quiet (match_reached r k s) ≡ quiet s
 reached_quiet r (plain.Sysctl name) s = refl
-reached_quiet r (plain.Attr name) s = by (is_not_read name s.state.event) (is_gone_by s.state.event.profile name s.state.event)
+reached_quiet r (plain.Attr name) s = by (is_not_read name s.state.event)
   where
-    by : (b c : Bool) → quiet (cond b (noted r AttributeNotRead name s) (cond c (noted r AttributeGone name s) s)) ≡ quiet s
-    by true c = refl
-    by false true = refl
-    by false false = refl
+    by : (b : Bool) → quiet (cond b (noted r AttributeNotRead name s) s) ≡ quiet s
+    by true = refl
+    by false = refl
 reached_quiet r (plain.Const name) s = by (is_not_given name s.state.event)
   where
     by : (b : Bool) → quiet (cond b (noted r ConstantNotGiven name s) s) ≡ quiet s

@@ -46,9 +46,6 @@ pub enum NoteKind {
     BuiltinNeeds,
     /// For udev alone: a match of a constant that the block does not give; the word is the constant's name.
     ConstantNotGiven,
-    /// For udev alone: a match of an attribute of the event device as that is removed, when udev finds none; the word is the
-    /// attribute's name.
-    AttributeGone,
 }
 
 impl NoteKind {
@@ -74,7 +71,6 @@ impl NoteKind {
             NoteKind::AttributeNotFound => b"attribute not found",
             NoteKind::BuiltinNeeds => b"builtin needs",
             NoteKind::ConstantNotGiven => b"constant not given",
-            NoteKind::AttributeGone => b"attribute is gone",
         }
     }
 }

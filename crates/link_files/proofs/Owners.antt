@@ -1,5 +1,5 @@
 -- Drop-ins that are put together by the names of the files that they are for.
-use Rattle.std.proofs.Common.{◌≡◌, ℕ, ◌+◌, ◌<◌, ◌≤◌, ◌&&◌, nat_lt, not, codes, Bool, true, false, true≢false, cond, List, [], ◌∷◌, ◌++◌, length, map, take, drop, Option, Some, None, option_map, unwrap_or, Bor, Vec, refl, sym, ap, ◌∙◌, arith, append-nil, length-take-le, le_of_lt, drop_of_length-le, ltb-false, ltb-true, lt-ltb, le-ltb}
+use Rattle.std.proofs.Common.{◌≡◌, ℕ, ◌+◌, ◌<◌, ◌≤◌, ◌&&◌, nat_lt, not, codes, Bool, true, false, true≢false, cond, List, [], ◌∷◌, ◌++◌, length, map, take, drop, Option, Some, None, option_copied, option_map, unwrap_or, Bor, Vec, refl, sym, ap, ◌∙◌, arith, append-nil, length-take-le, le_of_lt, drop_of_length-le, ltb-false, ltb-true, lt-ltb, le-ltb}
 use Rattle.std.specs.Cmp.Lexicographic.{bytes_decides}
 use Rattle.std.specs.Map.{lookup, set_value}
 use Rattle.std.specs.Option.{option_map_or}
@@ -12,7 +12,7 @@ use Rattle.text_bytes.specs.declared.source_file.SourceFile.{SourceFile}
 use Rattle.text_tables.specs.Texts.{same_text}
 use Rattle.text_tables.specs.Pairs.{value_of}
 use Rattle.text_tables.proofs.Found.{value_set}
-use Rattle.text_tables.proofs.Held.{found, is_text, same, set}
+use Rattle.text_tables.proofs.Held.{borrowed, found, is_text, same, set}
 use Rattle.link_files.specs.DropIns.{is_drop_in_name, is_for}
 
 -- the files that are borrowed
@@ -23,23 +23,30 @@ files_in v = map (λ f. f.now) v.items
 abbrev held : {A : Type 0} → List (Bor Text × Vec (Bor SourceFile) A) → Text → Option (List SourceFile)
 held es name = value_of (map (λ e. (e.0.now, files_in e.1)) es) name
 
-module _ {A : Type 0} where
-  abbrev Own : Type 0
-  Own = Vec (Bor SourceFile) A
+-- the drop-ins of one name
+abbrev Owned : Type 0 → Type 0
+Owned A = Vec (Bor SourceFile) A
 
+module _ {A : Type 0} where
   -- what is found is what the map has
-  pub own_found : (es : List (Bor Text × Own)) (name : Text) → option_map (λ (v : Own). files_in v) (lookup (is_text (λ (t : Bor Text). t.now) name) es) ≡ held es name
-  own_found es name = found (λ (t : Bor Text). t.now) (λ (v : Own). files_in v) es name
+  pub own_found : (es : List (Bor Text × Owned A)) (name : Text) → option_map (λ (v : Owned A). files_in v) (lookup (is_text (λ (t : Bor Text). t.now) name) es) ≡ held es name
+  own_found es name = found (λ (t : Bor Text). t.now) (λ (v : Owned A). files_in v) es name
+
+  -- the files that are taken, if none are taken where the map has no name
+  pub own_taken : (es : List (Bor Text × Owned A)) (name : Text) (o : Option (Bor (Owned A))) (none : Bor (Owned A)) → none.now.items ≡ [] → option_copied o ≡ lookup (is_text (λ (t : Bor Text). t.now) name) es
+      → files_in (unwrap_or o none).now ≡ unwrap_or (held es name) []
+  own_taken es name None none empty h = ap (map (λ f. f.now)) empty ∙ ap (λ files. unwrap_or files []) (borrowed (λ (t : Bor Text). t.now) (λ (v : Owned A). files_in v) es name None h)
+  own_taken es name (Some v) none empty h = ap (λ files. unwrap_or files []) (borrowed (λ (t : Bor Text). t.now) (λ (v : Owned A). files_in v) es name (Some v) h)
 
   -- a name that is put in has its files
-  put_in : (es : List (Bor Text × Own)) (k : Bor Text) (v : Own) (name : Text)
+  put_in : (es : List (Bor Text × Owned A)) (k : Bor Text) (v : Owned A) (name : Text)
       → held (insert_entry (same (λ (t : Bor Text). t.now)) es k v) name ≡ cond (same_text name k.now) (Some (files_in v)) (held es name)
   put_in es k v name =
-      ap (λ ps. value_of ps name) (set (λ (t : Bor Text). t.now) (λ (v : Own). files_in v) es k v)
+      ap (λ ps. value_of ps name) (set (λ (t : Bor Text). t.now) (λ (v : Owned A). files_in v) es k v)
       ∙ value_set (map (λ e. (e.0.now, files_in e.1)) es) k.now (files_in v) name
 
   -- a write changes the files of one name
-  written : (es : List (Bor Text × Own)) (t : Text) (w : Own) (name : Text)
+  written : (es : List (Bor Text × Owned A)) (t : Text) (w : Owned A) (name : Text)
       → held (set_value (is_text (λ (k : Bor Text). k.now) t) es w) name ≡ cond (same_text name t) (option_map (λ files. files_in w) (held es name)) (held es name)
   written [] t w name = elim (same_text name t) as (λ (b : Bool). None ≡ cond {A = Option (List SourceFile)} b None None) [ true ↦ refl | false ↦ refl ]
   written (e ∷ es) t w name = by (same_text t e.0.now) refl (written es t w name)
@@ -72,24 +79,24 @@ module _ {A : Type 0} where
           there (same_text name e.0.now) (same_text name t) (held es name) _
           (λ f g. true≢false (sym ((bytes_decides t e.0.now).1 (sym ((bytes_decides name t).0 g) ∙ (bytes_decides name e.0.now).0 f)) ∙ e_is)) more
 
-  module _ (es : List (Bor Text × Own)) (t : Text) (file : SourceFile) (name : Text) where
+  module _ (es : List (Bor Text × Owned A)) (t : Text) (file : SourceFile) (name : Text) where
     -- what a name has after a file was added to another
     abbrev One : Option (List SourceFile) → Type 0
     One new = unwrap_or new [] ≡ unwrap_or (held es name) [] ++ cond (same_text name t) (file ∷ []) []
 
     -- a file is added to a name that is there
-    pub added : (old w : Own) (new : List (Bor Text × Own)) → new ≡ set_value (is_text (λ (k : Bor Text). k.now) t) es w → lookup (is_text (λ (k : Bor Text). k.now) t) es ≡ Some old
+    pub added : (old w : Owned A) (new : List (Bor Text × Owned A)) → new ≡ set_value (is_text (λ (k : Bor Text). k.now) t) es w → lookup (is_text (λ (k : Bor Text). k.now) t) es ≡ Some old
         → files_in w ≡ files_in old ++ file ∷ [] → One (held new name)
     added old w new new_is old_is w_is = ap (λ ps. unwrap_or (held ps name) []) new_is ∙ ap (λ o. unwrap_or o []) (written es t w name) ∙ by (same_text name t) refl
       where
         by : (b : Bool) → same_text name t ≡ b → unwrap_or (cond b (option_map (λ files. files_in w) (held es name)) (held es name)) [] ≡ unwrap_or (held es name) [] ++ cond b (file ∷ []) []
         by true e =
-            let its : held es name ≡ Some (files_in old) = ap (held es) ((bytes_decides name t).0 e) ∙ sym (own_found es t) ∙ ap (option_map (λ (v : Own). files_in v)) old_is in
+            let its : held es name ≡ Some (files_in old) = ap (held es) ((bytes_decides name t).0 e) ∙ sym (own_found es t) ∙ ap (option_map (λ (v : Owned A). files_in v)) old_is in
             rw (its, w_is) refl
         by false e = sym (append-nil (unwrap_or (held es name) []))
 
     -- a name that is not there is put in with the file
-    pub first_added : (k : Bor Text) (v : Own) (new : List (Bor Text × Own)) → k.now ≡ t → new ≡ insert_entry (same (λ (x : Bor Text). x.now)) es k v → lookup (is_text (λ (x : Bor Text). x.now) t) es ≡ None
+    pub first_added : (k : Bor Text) (v : Owned A) (new : List (Bor Text × Owned A)) → k.now ≡ t → new ≡ insert_entry (same (λ (x : Bor Text). x.now)) es k v → lookup (is_text (λ (x : Bor Text). x.now) t) es ≡ None
         → files_in v ≡ file ∷ [] → One (held new name)
     first_added k v new k_is new_is none v_is =
         ap (λ ps. unwrap_or (held ps name) []) new_is ∙ ap (λ o. unwrap_or o []) (put_in es k v name)
@@ -97,7 +104,7 @@ module _ {A : Type 0} where
       where
         by : (b : Bool) → same_text name t ≡ b → unwrap_or (cond b (Some (files_in v)) (held es name)) [] ≡ unwrap_or (held es name) [] ++ cond b (file ∷ []) []
         by true e =
-            let its : held es name ≡ None = ap (held es) ((bytes_decides name t).0 e) ∙ sym (own_found es t) ∙ ap (option_map (λ (v : Own). files_in v)) none in
+            let its : held es name ≡ None = ap (held es) ((bytes_decides name t).0 e) ∙ sym (own_found es t) ∙ ap (option_map (λ (v : Owned A). files_in v)) none in
             rw (its, v_is) refl
         by false e = sym (append-nil (unwrap_or (held es name) []))
 

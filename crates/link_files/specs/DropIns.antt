@@ -1,5 +1,5 @@
 -- Serves inner proofs only: drop-ins by the name of the file that they are for.
-use Rattle.std.specs.Prelude.{Bool, false, not, List, [], Option, None, Vec, map, option_and_then, unwrap_or, codes}
+use Rattle.std.specs.Prelude.{Bool, false, not, List, [], Vec, map, option_and_then, unwrap_or, codes}
 use Rattle.std.specs.Borrow.{Bor}
 use Rattle.std.specs.Option.{option_map_or}
 use Rattle.indexmap.specs.IndexMap.{IndexMap}

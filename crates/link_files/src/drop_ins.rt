@@ -20,10 +20,12 @@ type Owners<'f> = IndexMap<&'f [u8], Vec<&'f SourceFile>>;
 pub struct DropIns<'f> {
     files: &'f [SourceFile],
     owners: Owners<'f>,
+    /// What a file without drop-ins has.
+    none: Vec<&'f SourceFile>,
 }
 
 impl<'f> Model for DropIns<'f> {
-    ghost use Rattle.std.specs.Prelude.{◌≡◌, List, filter};
+    ghost use Rattle.std.specs.Prelude.{◌≡◌, List, [], filter};
     ghost use Rattle.text_bytes.specs.Text.{Text};
     ghost use Rattle.text_bytes.specs.declared.source_file.SourceFile as source;
     ghost use Rattle.link_files.specs.DropIns.{is_for, own_of};
@@ -32,7 +34,7 @@ impl<'f> Model for DropIns<'f> {
 
     ghost view = { λ d. d.files.now };
 
-    ghost invariant = { λ d. (name : Text) → own_of d.owners name ≡ filter (is_for name) d.files.now };
+    ghost invariant = { λ d. (d.none.items ≡ []) × ((name : Text) → own_of d.owners name ≡ filter (is_for name) d.files.now) };
 }
 
 /// Whether what follows the name of a file in another name makes that one a drop-in of it.
@@ -99,16 +101,20 @@ impl<'f> DropIns<'f> {
         ensures { IfOk result (λ drop_ins. drop_ins ≡ files.now) }
     {
         let owners = owners_of(alloc, files)?;
-        Ok(DropIns { files, owners })
+        Ok(DropIns {
+            files,
+            owners,
+            none: Vec::new(alloc),
+        })
     }
 
     /// The drop-ins of a file, in their order.
     pub fn of_file(&self, file: &SourceFile) -> &[&'f SourceFile]
         ensures { map (λ f. f.now) result.now ≡ filter (is_drop_in file.now) self.now }
     {
-        match self.owners.get(file.name.as_slice()) {
-            Some(own) => own.as_slice(),
-            None => &[],
-        }
+        self.owners
+            .get(file.name.as_slice())
+            .unwrap_or(&self.none)
+            .as_slice()
     }
 }

@@ -194,14 +194,13 @@ fn link_file(
 fn with_all_drop_ins(
     alloc: Global,
     links: &[SourceFile],
-    drop_ins: &[SourceFile],
+    drop_ins: &DropIns<'_>,
 ) -> Result<Vec<LinkFile>, AllocError>
     ensures { IfOk result (λ files. files.items ≡ filter_map (link_file drop_ins.now) links.now) }
 {
-    let drop_ins = DropIns::of(alloc, drop_ins)?;
     let mut files = Vec::new(alloc);
     for file in links {
-        if let Some(link) = link_file(alloc, &drop_ins, file)? {
+        if let Some(link) = link_file(alloc, drop_ins, file)? {
             files.push(link)?;
         }
     }
@@ -227,5 +226,5 @@ pub fn read_links(
 {
     let links = order_files(alloc, links, b".link")?;
     let drop_ins = order_files(alloc, drop_ins, b".conf")?;
-    with_all_drop_ins(alloc, &links, &drop_ins)
+    with_all_drop_ins(alloc, &links, &DropIns::of(alloc, &drop_ins)?)
 }

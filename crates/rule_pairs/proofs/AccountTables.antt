@@ -1,5 +1,5 @@
 -- The table of accounts gives each name the number of the first account that has it.
-use Rattle.std.proofs.Common.{◌≡◌, ℕ, Bool, true, false, true≢false, cond, List, [], ◌∷◌, ◌++◌, map, reverse, Option, Some, None, option_map, refl, ap, sym, ◌∙◌}
+use Rattle.std.proofs.Common.{◌≡◌, Bool, true, false, cond, List, [], ◌∷◌, map, reverse, Option, Some, None, option_map, refl, ap, sym, ◌∙◌}
 use Rattle.std.specs.Cmp.Lexicographic.{bytes_decides}
 use Rattle.std.specs.List.{find}
 use Rattle.std.proofs.lemmas.Grind.{reverse_onto}
@@ -9,11 +9,9 @@ use Rattle.text_bytes.specs.Text.{Text}
 use Rattle.text_tables.specs.Texts.{same_text}
 use Rattle.text_tables.specs.Pairs.{value_of, with_value, with_values}
 use Rattle.text_tables.proofs.Found.{value_set}
-use Rattle.rule_pairs.specs.Accounts.{given_by, is_identity}
+use Rattle.rule_pairs.specs.Accounts.{given_by}
 use Rattle.rule_pairs.specs.AccountTables.{first_number, given_by_number, named_number, number_table}
 use Rattle.rule_pairs.specs.declared.accounts.Account.{Account}
-use Rattle.rule_pairs.specs.declared.accounts.Given.{Given}
-use Rattle.rule_pairs.specs.declared.accounts.Given.TheVariants.{Number, Unknown}
 
 same_tests : (p q : Bool) → (p ≡ true → q ≡ true) → (q ≡ true → p ≡ true) → p ≡ q
 same_tests true q f g = sym (f refl)

@@ -8,4 +8,4 @@ loop-byte-preserved c =
     let text = c.loop-byte.text in
     let at = c.loop-byte.byte-index in
     let within : at < length c.args.text.now = search rules in
-    ap (set text at) c.said_byte.ensures ∙ map_over_more said_byte c.args.text.now text at (get_or text at 0) within c.loop-byte.invariant (search rules)
+    ap (set text at) c.said_byte.ensures.value ∙ map_over_more said_byte c.args.text.now text at (get_or text at 0) within c.loop-byte.invariant (search rules)

@@ -1,7 +1,7 @@
 //! All lints of the rules of a file, in their order, with their places.
 ghost use Rattle.std.specs.Prelude.{◌≡◌, ◌++◌, [], IfOk, OnOk};
 ghost use Rattle.rule_file_lints.specs.FileLints.{lints_of_lines, spots_among, spots_by};
-ghost use Rattle.rule_file_lints.specs.Steps.{above_after, names_after, names_at_first, names_in, nothing_above, spots_at, with_names, with_rule};
+ghost use Rattle.rule_file_lints.specs.Steps.{above_after, lints_over, names_after, names_at_first, names_in, nothing_above, spots_at, with_names, with_rule};
 
 use crate::by_name::{add_later_families, is_later};
 use crate::file_rule::FileRule;
@@ -83,12 +83,25 @@ pub fn lints_of_lines(
     ensures { IfOk result (λ found. found.items ≡ lints_of_lines profile name.now kept.now lines.now) }
 {
     let names = FileNames::of(alloc, name, lines)?;
+    lints_by_names(alloc, profile, &names, kept, lines)
+}
+
+/// The same by what the lines are about.
+fn lints_by_names(
+    alloc: Global,
+    profile: Profile,
+    names: &FileNames,
+    kept: &KeptLines,
+    lines: &[LandedReading<'_>],
+) -> Result<Vec<PlacedFinding<Lint>>, AllocError>
+    ensures { IfOk result (λ found. found.items ≡ lints_over profile names.now kept.now nothing_above 0 lines.now) }
+{
     let mut above = RulesAbove::new(alloc);
     let mut found = Vec::new(alloc);
     let mut start = 0;
     for line in lines {
         let reading = &line.reading;
-        let spots = lints_of_line(alloc, profile, &names, &above, line)?;
+        let spots = lints_of_line(alloc, profile, names, &above, line)?;
         place_spots(&mut found, kept, reading.line, start, spots)?;
         above.take(alloc, line)?;
         start = sum_of(start, reading.text.len())?;

@@ -3,7 +3,7 @@
 //! Nothing of a line is held when the next one is read but what lints need to know of it, so that a file takes memory by
 //! its bytes and not by what is found in it. Two kinds of files are read whole: those in which comments count, since what
 //! they silence is known in the end, and those that are given up.
-ghost use Rattle.std.specs.Prelude.{◌≡◌, ◌+◌, ◌++◌, ◌||◌, None, false, flat_map, map, sum_by, IfOk, OnOk};
+ghost use Rattle.std.specs.Prelude.{◌≡◌, ◌+◌, ◌++◌, ◌||◌, [], ◌∷◌, None, false, flat_map, map, sum_by, IfOk, OnOk};
 ghost use Rattle.text_bytes.specs.Text.{Text};
 ghost use Rattle.text_tables.specs.Texts.{is_among};
 ghost use Rattle.rule_core.specs.Counts.{token_count};

@@ -1,10 +1,10 @@
-"""The most memory that `verify` and `fmt` take for each byte of a rules file, over files that make them hold much: many short
+"""The most memory that `verify`, `verify --strict` and `fmt` take for each byte of a rules file, over files that make them hold much: many short
 lines, lines with a message each, labels and jumps, continued lines, long lines of short tokens, long patterns.
 
 usage: peaks.py PROGRAM [WORD]    WORD: only the files whose names have it
 
 Prints the bytes of memory for each byte of each file, all that a run takes divided by the size, and ends in 1 if one is over
-its bound. Memory is at least what this script holds, some 12 MB: six bytes for each byte of a file. So the files are written
+the bound. Memory is at least what this script holds, some 12 MB: six bytes for each byte of a file. So the files are written
 piece by piece.
 """
 import os
@@ -16,13 +16,12 @@ from pathlib import Path
 from timing import MILLION, Run, take
 
 SIZE = 2 * MILLION
-LINE = 16_000
 PIECE = 10_000
-# Each command, and how many bytes it may take for each byte of a file.
-COMMANDS = {"verify": (["verify"], 60), "strict": (["verify", "--strict"], 200), "fmt": (["fmt"], 60)}
-# `--strict` compares the tokens of a rule two by two, so that a long line of them takes long: it gets one of these, and the
-# memory of the script counts for more.
-SMALL = SIZE // 10
+# How many bytes a command may take for each byte of a file.
+BOUND = 60
+# Each command, and how long the long lines of its files are: `--strict` compares the tokens of a rule two by two, so that the
+# longest take long.
+COMMANDS = {"verify": (["verify"], 16_000), "strict": (["verify", "--strict"], 2_000), "fmt": (["fmt"], 16_000)}
 
 
 def lines(text):
@@ -32,8 +31,8 @@ def lines(text):
 
 
 def long_lines(token, begin=b"", end=b""):
-    """Lines of as many copies of a token as a line may have."""
-    return lines(begin + token * (LINE // len(token)) + end + b"\n")
+    """Long lines of copies of a token, by how long they are."""
+    return lambda length: lines(begin + token * (length // len(token)) + end + b"\n")
 
 
 def numbered(template):
@@ -86,33 +85,28 @@ FILES = {
 }
 
 
-def write(file, pieces, size):
-    """Writes pieces up to a size, and returns what was written."""
+def write(file, pieces):
+    """Writes pieces up to the size of a file, and returns what was written."""
     written = 0
     with file.open("wb") as out:
-        while written < size:
+        while written < SIZE:
             written += out.write(next(pieces))
     return written
-
-
-def size_for(name, command):
-    """How large a file is."""
-    return SMALL if command == "strict" and name.startswith("long lines of") else SIZE
 
 
 def over_bounds(program, word):
     """The files over which a command takes more than it may."""
     file = Path("a.rules")
     over = []
-    for command, (words, bound) in COMMANDS.items():
+    for command, (words, length) in COMMANDS.items():
         for name, pieces in FILES.items():
             if word in name:
-                size = write(file, pieces, size_for(name, command))
+                size = write(file, pieces(length) if callable(pieces) else pieces)
                 taken = take(Run([program, *words, file.name], statuses=(0, 1))).peak * 2**20 / size
                 said = f"{command}: {name}: {taken:.1f} bytes a byte"
                 print(said, flush=True)
-                if taken > bound:
-                    over.append(f"{said}, where the bound is {bound}")
+                if taken > BOUND:
+                    over.append(said)
     return over
 
 
@@ -120,7 +114,7 @@ def main(program, word=""):
     with tempfile.TemporaryDirectory() as folder:
         os.chdir(folder)
         over = over_bounds(program, word)
-    print("\n".join(["", *over]) if over else "none is over its bound")
+    print("\n".join(["", f"over {BOUND}:", *over]) if over else f"none is over {BOUND}")
     return bool(over)
 
 

@@ -10,6 +10,17 @@ LISTS = {"mnt/etc/passwd": "jo:x:1000:1000::/:/bin/sh\n", "mnt/etc/group": "staf
 NAMED = f"{RULES[0]}/a.rules"
 OWNED = 'KERNEL=="a", OWNER="jo", GROUP="staff"\n'
 STRANGE = 'KERNEL=="a", OWNER="jonh", GROUP="stuff"\n'
+CASE = 'ATTRS{idVendor}=="0BDA",TAG+="t"\n'
+# Lines of which each has something of its own, and what is told of them but for lints.
+LINES = f'FOO="b"\n{CASE}KERNEL=="a"\n{CASE}TAG+="c" \\\n'
+TOLD = ["1: V2 unknown key: FOO", "2: S2 blank after a comma expected: TAG", "3: V18 rule without effect", "4: S2 blank after a comma expected: TAG",
+        "5: V12 line continuation at the file's end"]
+
+
+def lines(messages):
+    """Lines about a file."""
+    return "".join(f"a.rules:{message}\n" for message in messages)
+
 
 # (what is asked, words, files, output, messages, status)
 RUNS = [
@@ -21,6 +32,11 @@ RUNS = [
     ("a message about style", "verify --strict -r mnt", {NAMED: 'KERNEL=="a",TAG+="t"\n'}, BAD, "a.rules:1: S2 blank after a comma expected: TAG\n", 1),
     ("without messages about style", "verify --strict --no-style -r mnt", {NAMED: 'KERNEL=="a",TAG+="t"\n'}, GOOD, "", 0),
     ("classes of codes are left out", "verify --strict --ignore S,W -r mnt", {NAMED: 'ATTRS{idVendor}=="0BDA",TAG+="t"\n'}, GOOD, "", 0),
+    ("what is told of each line, and then its lints", "verify --strict -r mnt", {NAMED: LINES, f"{RULES[0]}/b.rules": 'KERNEL=="a", TAG+="t"\n'},
+     "2 files checked, 1 good, 1 bad\n",
+     lines(sorted([*TOLD, *(f"{line}: W4 letter case that the kernel does not write: 0BDA" for line in (2, 4))])), 1),
+    ("the same where comments count", "verify --strict --ignore comments -r mnt", {NAMED: LINES.replace("KERNEL", "# devdry: ignore-file W4\nKERNEL", 1)}, BAD,
+     lines([*TOLD[:2], "4: V18 rule without effect", "5: S2 blank after a comma expected: TAG", "6: V12 line continuation at the file's end"]), 1),
     ("the other options may be given, too", "verify --strict --lint --udev --all -r mnt", {NAMED: 'KERNEL=="a", TAG+="t"\n'}, GOOD, "", 0),
     ("what can't be read", "verify --strict -r mnt", {NAMED: 'KERNEL=="a", TAG+="t"\n', f"{RULES[1]}/b.rules": Link("none")}, GOOD,
      unread(f"{RULES[1]}/b.rules", "link to nothing: none"), 3),

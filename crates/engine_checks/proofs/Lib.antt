@@ -17,3 +17,6 @@ pub mod UpdatesBefore
 pub mod Bare
 pub mod Placement
 pub mod Following
+pub mod InTurn
+pub mod Telling
+pub mod BadFiles

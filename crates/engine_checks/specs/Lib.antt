@@ -6,5 +6,6 @@ pub mod Outcomes
 pub mod Links
 pub mod Tables
 pub mod LinesFound
+pub mod Told
 pub mod Laws
 pub mod Steps

@@ -3,12 +3,16 @@ ghost use Rattle.std.specs.Prelude.{◌≡◌, ◌<◌, map, IfOk, IfErr};
 ghost use Rattle.engine_formats.specs.Diagnostics.{shown};
 ghost use Rattle.engine_reports.specs.Reports.{IsSaid, said};
 ghost use Rattle.engine_checks.specs.Outcomes.{checks_outcome, checks_said, rules_checks};
+ghost use Rattle.engine_checks.specs.Tables.{AsksLike};
+ghost use Rattle.engine_ends.specs.declared.line.Format.TheVariants.{Plain};
 
 use crate::asked::asked_by;
 use crate::in_format::in_format;
 use crate::reads::read_files;
+use crate::reported::Asked;
 use crate::rules_reported::rules_reported;
-use engine_ends::Line;
+use crate::told::{Told, told_of};
+use engine_ends::{Format, Line};
 use engine_formats::{Diagnostic, formatted};
 use engine_reports::{Refusal, Report, files_read, report_on_files};
 use rule_core::{MAX_TOKENS, files_as_read};
@@ -36,14 +40,54 @@ pub fn report_on_checks(
 }
 
 /// The same for the files that are read.
+#[tactic(auto, using(crate::proofs::BadFiles::asks_alike))]
 fn report_on_these(alloc: Global, line: &Line<'_>, files: &[SourceFile]) -> Result<Report, Refusal>
     ensures said { IfOk result (λ r. said r ≡ rules_checks line.now files.now) }
     ensures status { IfOk result (λ r. r.status < 3) }
     ensures refused { IfErr result (λ e. IsSaid e (rules_checks line.now files.now)) }
 {
     let asked = asked_by(alloc, line)?;
+    match line.format {
+        Format::Plain => report_on_told(alloc, &asked, line, files),
+        _ => report_on_found(alloc, &asked, line, files),
+    }
+}
+
+/// The same in plain lines, by what the line asks for.
+fn report_on_told(
+    alloc: Global,
+    asked: &Asked<'_>,
+    line: &Line<'_>,
+    files: &[SourceFile],
+) -> Result<Report, Refusal>
+    requires alike { AsksLike line.now asked.now }
+    requires plain { line.now.format ≡ Plain }
+    ensures said { IfOk result (λ r. said r ≡ rules_checks line.now files.now) }
+    ensures status { IfOk result (λ r. r.status < 3) }
+    ensures refused { IfErr result (λ e. IsSaid e (rules_checks line.now files.now)) }
+{
+    let Told { text, bad, tokens } = told_of(alloc, asked, line, files)?;
+    if tokens > MAX_TOKENS {
+        return Err(Refusal::TooManyRules);
+    }
+    let report = report_on_files(alloc, line.summary, files, &bad, text)?;
+    Ok(report)
+}
+
+/// The same in any format, by what the line asks for.
+fn report_on_found(
+    alloc: Global,
+    asked: &Asked<'_>,
+    line: &Line<'_>,
+    files: &[SourceFile],
+) -> Result<Report, Refusal>
+    requires { AsksLike line.now asked.now }
+    ensures said { IfOk result (λ r. said r ≡ rules_checks line.now files.now) }
+    ensures status { IfOk result (λ r. r.status < 3) }
+    ensures refused { IfErr result (λ e. IsSaid e (rules_checks line.now files.now)) }
+{
     let reads = read_files(alloc, line, files)?;
-    let found = rules_reported(alloc, &asked, &reads)?;
+    let found = rules_reported(alloc, asked, &reads)?;
     if found.tokens > MAX_TOKENS {
         return Err(Refusal::TooManyRules);
     }

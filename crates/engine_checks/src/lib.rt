@@ -35,6 +35,7 @@ mod rules_reported;
 mod silenced;
 mod single;
 mod starts;
+mod told;
 mod updates;
 
 pub use checks::report_on_checks;

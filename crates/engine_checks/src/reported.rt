@@ -61,7 +61,7 @@ fn is_lint(remark: Remark) -> bool
 }
 
 /// Whether a remark is asked for.
-fn is_asked(asked: &Asked<'_>, remark: Remark) -> bool
+pub(crate) fn is_asked(asked: &Asked<'_>, remark: Remark) -> bool
     ensures { result ≡ is_asked asked.now remark }
 {
     (!is_lint(remark) || asked.lint)

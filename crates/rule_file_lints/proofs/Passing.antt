@@ -1,27 +1,31 @@
--- What the pass over the rules of a file keeps.
-use Rattle.std.proofs.Common.{◌≡◌, ℕ, ◌+◌, ◌<◌, ◌≤◌, suc, Bool, true, false, cond, ◌||◌, ◌&&◌, List, [], ◌∷◌, ◌++◌, length, map, get_or, take, drop, Option, Some, None, reverse, refl, ap, subst, sym, ◌∙◌, append-nil, append_assoc, length-drop, arith}
+-- What the pass over the lines of a file keeps.
+use Rattle.std.proofs.Common.{◌≡◌, ℕ, ◌+◌, Bool, true, false, cond, not, ◌||◌, ◌&&◌, List, [], ◌∷◌, ◌++◌, length, map, drop, Option, Some, None, unwrap_or, Result, Ok, Err, refl, ap, ap₂, sym, ◌∙◌}
 use Rattle.std.specs.List.{flat_map, list_any}
-use Rattle.std.proofs.Math.Seq.{drop-cons}
-use Rattle.std.proofs.lemmas.List.{reverse-append, take_more}
+use Rattle.std.specs.Option.{option_map_or}
 use Rattle.std.proofs.lemmas.List.Folds.{list_any-append}
 use Rattle.text_bytes.specs.declared.profile.Profile.{Profile}
 use Rattle.text_bytes.specs.Text.{Text}
+use Rattle.text_bytes.specs.Texts.{first}
 use Rattle.text_tables.specs.Texts.{is_among, same_text, with_text, with_texts}
 use Rattle.text_tables.proofs.Found.{among_added}
-use Rattle.rule_file_lints.specs.Compared.{compared_texts, meant_spots, meant_to_compare, assigned_value, text_of, Valued}
+use Rattle.file_messages.specs.declared.message.MessageKind.{MessageKind}
+use Rattle.rule_jumps.specs.declared.jumps.Landing.{Landing}
+use Rattle.rule_core.specs.Drafts.{Draft}
+use Rattle.rule_core.specs.Rules.{Reading}
+use Rattle.rule_file_lints.specs.Compared.{compared_by, compared_texts, meant_spots, meant_to_compare, assigned_value, text_of, Valued}
 use Rattle.rule_value_lints.specs.Assignments.{is_about_tags}
 use Rattle.rule_value_lints.specs.ValueLints.{value_lints}
 use Rattle.rule_file_lints.specs.Beside.{imported_beside, imports_any, late_spots}
-use Rattle.rule_file_lints.specs.FileLints.{FileNames, RulesAbove, left_by, lints_below, lints_of, names_of, spots_by, spots_of}
+use Rattle.rule_file_lints.specs.FileLints.{FileNames, RulesAbove, left_by, lints_below, lints_of_lines, names_of, spots_by, spots_of}
 use Rattle.rule_file_lints.specs.ByName.{later_families}
-use Rattle.rule_file_lints.specs.Late.{are_late, has_tag, late_tag}
+use Rattle.rule_file_lints.specs.Late.{has_access, has_tag, late_tag}
 use Rattle.rule_file_lints.specs.Guarded.{has_program, may_jump, no_result, unguarded}
-use Rattle.rule_file_lints.specs.FileRules.{FileRule}
-use Rattle.rule_file_lints.specs.Imported.{any_property, below_spots, families, given_by, given_names, has_property, imported_below, imported_names, is_of, wanted_in}
+use Rattle.rule_file_lints.specs.FileRules.{FileRule, rule_before, rules_from}
+use Rattle.rule_file_lints.specs.Imported.{any_property, below_spots, families, given_by, given_names, has_property, imported_below, imported_by, imported_names, is_of, wanted_in}
 use Rattle.rule_file_lints.specs.Matches.{is_match}
-use Rattle.rule_file_lints.specs.Reached.{jumps_above, never_reached}
+use Rattle.rule_file_lints.specs.Reached.{never_reached}
 use Rattle.rule_lints.specs.RuleLints.{lints_of_rule}
-use Rattle.rule_file_lints.specs.Steps.{nothing_above, with_rule}
+use Rattle.rule_file_lints.specs.Steps.{lints_over, names_after, names_at_first, names_in, names_over, nothing_above, rule_in, with_names, with_rule}
 use Rattle.rule_types.specs.Tokens.{WrittenPart}
 use Rattle.rule_types.specs.declared.spot.Spot.{Spot}
 use Rattle.rule_lints.specs.declared.lint.Lint.{Lint}
@@ -56,13 +60,6 @@ among_all (t ∷ more) texts name =
 
 pub all_added : (more : List Text) → SameTexts (with_texts [] more) more
 all_added more name = among_all more [] name
-
--- what is added after all that was added before
-both_added : (a b : List Text) → SameTexts (with_texts (with_texts [] a) b) (a ++ b)
-both_added a b name =
-    among_all b (with_texts [] a) name
-    ∙ ap (λ x. x || is_among b name) (all_added a name)
-    ∙ sym (list_any-append (same_text name) a b)
 
 has_by : (a b : List Text) → SameTexts a b → (rows : List (Text × Text)) (name : Text)
     → list_any (λ row. is_of row.1 name && is_among a row.1) rows ≡ list_any (λ row. is_of row.1 name && is_among b row.1) rows
@@ -142,29 +139,6 @@ spots_same profile names all a b r n s =
     rests =
         rw (tokens_same names.imported all.imported a.given b.given n.imported s.given r.draft.parts, beside_same a.given b.given s.given false r.draft.parts, meant_same names.compared all.compared n.compared r.draft.parts, s.jump, s.guarded, s.programs, n.late, s.tag)
 
--- going down: what the rules above leave is known, and the lints so far and those of the rules below are all
-pub record Descends (profile : Profile) (path : Text) (kept : List KeptLine) (above : RulesAbove) (spots : List (PlacedFinding Lint)) (rules : List FileRule) (i : ℕ) : Type 0 where
-  pub left : SameAbove above (left_by (reverse (take i rules)))
-  pub so_far : spots ++ lints_below profile path kept rules (reverse (take i rules)) (drop i rules) ≡ lints_of profile path kept rules
-
-pub down_start : (profile : Profile) (path : Text) (kept : List KeptLine) (above : RulesAbove) (spots : List (PlacedFinding Lint)) (rules : List FileRule) → above ≡ nothing_above → spots ≡ [] → Descends profile path kept above spots rules 0
-down_start profile path kept above spots rules e f = record {
-  left = record {
-    given = λ name. ap (λ (a : RulesAbove). is_among a.given name) e;
-    jump = ap (λ (a : RulesAbove). a.jump) e;
-    guarded = ap (λ (a : RulesAbove). a.guarded) e;
-    programs = ap (λ (a : RulesAbove). a.programs) e;
-    tag = ap (λ (a : RulesAbove). a.tag) e;
-  };
-  so_far = ap (λ x. x ++ lints_of profile path kept rules) f;
-}
-
--- a rule comes before those after it
-rule_item : (rules : List FileRule) (i : ℕ) (r : FileRule) → i < length rules → r ≡ get_or rules i r → drop i rules ≡ r ∷ drop (i + 1) rules
-rule_item rules i r h e =
-    let next : i + 1 ≡ suc i = omega arith in
-    drop-cons rules i r h ∙ ap (λ x. x ∷ drop (suc i) rules) (sym e) ∙ ap (λ n. r ∷ drop n rules) (sym next)
-
 given_more : (given : List Text) (above : List FileRule) (r : FileRule) → SameTexts given (given_names above) → SameTexts (with_texts given (given_by r.draft.parts)) (given_names (r ∷ above))
 given_more given above r same name =
     among_all (given_by r.draft.parts) given name
@@ -182,38 +156,155 @@ left_more above next past r same n = record {
   tag = ap (λ (a : RulesAbove). a.tag) n ∙ ap (λ b. has_tag r.draft.parts || b) same.tag;
 }
 
-pub down_past : (profile : Profile) (path : Text) (kept : List KeptLine) (above next : RulesAbove) (spots more : List (PlacedFinding Lint)) (found : List (Spot Lint)) (names : FileNames) (rules : List FileRule) (i : ℕ) (r : FileRule) → Descends profile path kept above spots rules i
-    → i < length rules → r ≡ get_or rules i r → names.imported ≡ with_texts (with_texts [] (imported_names rules)) (later_families path) → names.compared ≡ with_texts [] (compared_texts rules) → names.tagged ≡ list_any (λ s. is_about_tags s.draft.parts) rules → names.late ≡ are_late path rules
-    → found ≡ spots_by profile names above r → more ≡ spots ++ map (placed kept r.number r.start) found → next ≡ with_rule above r
-    → Descends profile path kept next more rules (i + 1)
-down_past profile path kept above next spots more found names rules i r before h e imported compared tagged late f m n =
-    let past : List FileRule = reverse (take i rules) in
-    let reversed : reverse (take (i + 1) rules) ≡ r ∷ past = ap reverse (take_more rules i r h ∙ ap (λ x. take i rules ++ x ∷ []) (sym e)) ∙ reverse-append (take i rules) (r ∷ []) in
-    let known : SameNames names (names_of path rules) =
+-- what is known of lines, one after another, is what is known of their rules
+abbrev Lines : Type 0
+Lines = List (Reading × Landing)
+
+imports_over : (n : FileNames) (start : ℕ) (lines : Lines) (name : Text) → is_among (names_over n lines).imported name ≡ (is_among n.imported name || is_among (imported_names (rules_from start lines)) name)
+imports_over n start [] name = reversed_or false (is_among n.imported name)
+imports_over n start (x ∷ lines) name = by x.0.read (λ (m : FileNames). imports_over m (start + length x.0.text) lines name)
+  where
+    more : ℕ
+    more = start + length x.0.text
+
+    by : (read : Result Draft (Spot MessageKind)) → ((m : FileNames) → is_among (names_over m lines).imported name ≡ (is_among m.imported name || is_among (imported_names (rules_from more lines)) name)) → is_among (names_over (option_map_or (with_names n) (rule_in read x.1) n) lines).imported name
+        ≡ (is_among n.imported name || is_among (imported_names (rule_before x.0.line start read x.1 (rules_from more lines))) name)
+    by (Err wrong) those = those n
+    by (Ok d) those =
+        let added : List Text = imported_by d.parts in
+        let rest : List Text = imported_names (rules_from more lines) in
+        those (with_names n (record { number = 0; start = 0; draft = d; landing = x.1 }))
+        ∙ ap (λ b. b || is_among rest name) (among_all added n.imported name)
+        ∙ or_swapped (is_among n.imported name) (is_among added name) (is_among rest name)
+        ∙ ap (λ b. is_among n.imported name || b) (sym (list_any-append (same_text name) added rest))
+
+compares_over : (n : FileNames) (start : ℕ) (lines : Lines) (name : Text) → is_among (names_over n lines).compared name ≡ (is_among n.compared name || is_among (compared_texts (rules_from start lines)) name)
+compares_over n start [] name = reversed_or false (is_among n.compared name)
+compares_over n start (x ∷ lines) name = by x.0.read (λ (m : FileNames). compares_over m (start + length x.0.text) lines name)
+  where
+    more : ℕ
+    more = start + length x.0.text
+
+    by : (read : Result Draft (Spot MessageKind)) → ((m : FileNames) → is_among (names_over m lines).compared name ≡ (is_among m.compared name || is_among (compared_texts (rules_from more lines)) name)) → is_among (names_over (option_map_or (with_names n) (rule_in read x.1) n) lines).compared name
+        ≡ (is_among n.compared name || is_among (compared_texts (rule_before x.0.line start read x.1 (rules_from more lines))) name)
+    by (Err wrong) those = those n
+    by (Ok d) those =
+        let added : List Text = compared_by d.parts in
+        let rest : List Text = compared_texts (rules_from more lines) in
+        those (with_names n (record { number = 0; start = 0; draft = d; landing = x.1 }))
+        ∙ ap (λ b. b || is_among rest name) (among_all added n.compared name)
+        ∙ or_swapped (is_among n.compared name) (is_among added name) (is_among rest name)
+        ∙ ap (λ b. is_among n.compared name || b) (sym (list_any-append (same_text name) added rest))
+
+tags_over : (n : FileNames) (start : ℕ) (lines : Lines) → (names_over n lines).tagged ≡ (n.tagged || list_any (λ r. is_about_tags r.draft.parts) (rules_from start lines))
+tags_over n start [] = reversed_or false n.tagged
+tags_over n start (x ∷ lines) = by x.0.read (λ (m : FileNames). tags_over m (start + length x.0.text) lines)
+  where
+    more : ℕ
+    more = start + length x.0.text
+
+    by : (read : Result Draft (Spot MessageKind)) → ((m : FileNames) → (names_over m lines).tagged ≡ (m.tagged || list_any (λ r. is_about_tags r.draft.parts) (rules_from more lines))) → (names_over (option_map_or (with_names n) (rule_in read x.1) n) lines).tagged
+        ≡ (n.tagged || list_any (λ r. is_about_tags r.draft.parts) (rule_before x.0.line start read x.1 (rules_from more lines)))
+    by (Err wrong) those = those n
+    by (Ok d) those =
+        those (with_names n (record { number = 0; start = 0; draft = d; landing = x.1 }))
+        ∙ or_swapped n.tagged (is_about_tags d.parts) (list_any (λ r. is_about_tags r.draft.parts) (rules_from more lines))
+
+neither : (a b c : Bool) → ((a && not b) && not c) ≡ (a && not (b || c))
+neither true true c = refl
+neither true false c = refl
+neither false b c = refl
+
+unchanged : (a : Bool) → a ≡ (a && true)
+unchanged true = refl
+unchanged false = refl
+
+late_over : (n : FileNames) (start : ℕ) (lines : Lines) → (names_over n lines).late ≡ (n.late && not (list_any (λ r. has_access r.draft.parts) (rules_from start lines)))
+late_over n start [] = unchanged n.late
+late_over n start (x ∷ lines) = by x.0.read (λ (m : FileNames). late_over m (start + length x.0.text) lines)
+  where
+    more : ℕ
+    more = start + length x.0.text
+
+    by : (read : Result Draft (Spot MessageKind)) → ((m : FileNames) → (names_over m lines).late ≡ (m.late && not (list_any (λ r. has_access r.draft.parts) (rules_from more lines)))) → (names_over (option_map_or (with_names n) (rule_in read x.1) n) lines).late
+        ≡ (n.late && not (list_any (λ r. has_access r.draft.parts) (rule_before x.0.line start read x.1 (rules_from more lines))))
+    by (Err wrong) those = those n
+    by (Ok d) those =
+        those (with_names n (record { number = 0; start = 0; draft = d; landing = x.1 }))
+        ∙ neither n.late (has_access d.parts) (list_any (λ r. has_access r.draft.parts) (rules_from more lines))
+
+-- one more line is read, or none is left
+pub names_more : (n next : FileNames) (rest others : Lines) (x : Reading × Landing) (whole : FileNames) → first rest ≡ Some x → others ≡ drop 1 rest → next ≡ names_after n x → names_over n rest ≡ whole → names_over next others ≡ whole
+names_more n next [] others x whole f o e w = cc
+names_more n next (y ∷ rest) others x whole f o e w =
+    ap₂ names_over e o
+    ∙ ap (λ (z : Reading × Landing). names_over (names_after n z) rest) (ap (λ (m : Option (Reading × Landing)). unwrap_or m x) (sym f))
+    ∙ w
+
+pub names_end : (n : FileNames) (rest : Lines) (whole : FileNames) → first rest ≡ None → names_over n rest ≡ whole → n ≡ whole
+names_end n [] whole f w = w
+names_end n (x ∷ rest) whole f w = cc
+
+pub names_known : (path : Text) (start : ℕ) (lines : Lines) → SameNames (names_in path lines) (names_of path (rules_from start lines))
+names_known path start lines =
+    let rules : List FileRule = rules_from start lines in
+    let families : List Text = later_families path in
     record {
-      imported = λ name. ap (λ x. is_among x name) imported ∙ both_added (imported_names rules) (later_families path) name;
-      compared = λ name. ap (λ x. is_among x name) compared ∙ all_added (compared_texts rules) name;
-      tagged = tagged;
-      late = late;
-    } in
-    let own : spots_by profile names above r ≡ spots_of profile path rules past r = spots_same profile names (names_of path rules) above (left_by past) r known before.left in
-    record {
-      left = subst (λ rs. SameAbove next (left_by rs)) (sym reversed) (left_more above next past r before.left n);
-      so_far =
-          ap (λ x. x ++ lints_below profile path kept rules (reverse (take (i + 1) rules)) (drop (i + 1) rules)) (m ∙ ap (λ (x : List (Spot Lint)). spots ++ map (placed kept r.number r.start) x) f)
-          ∙ ap (λ rs. (spots ++ map (placed kept r.number r.start) (spots_by profile names above r)) ++ lints_below profile path kept rules rs (drop (i + 1) rules)) reversed
-          ∙ append_assoc spots (map (placed kept r.number r.start) (spots_by profile names above r)) (lints_below profile path kept rules (r ∷ past) (drop (i + 1) rules))
-          ∙ ap (λ x. spots ++ (map (placed kept r.number r.start) x ++ lints_below profile path kept rules (r ∷ past) (drop (i + 1) rules))) own
-          ∙ ap (λ rs. spots ++ lints_below profile path kept rules past rs) (sym (rule_item rules i r h e))
-          ∙ before.so_far;
+      imported = λ name.
+          imports_over (names_at_first path) start lines name
+          ∙ ap (λ b. b || is_among (imported_names rules) name) (all_added families name)
+          ∙ reversed_or (is_among families name) (is_among (imported_names rules) name)
+          ∙ sym (list_any-append (same_text name) (imported_names rules) families);
+      compared = λ name. compares_over (names_at_first path) start lines name;
+      tagged = tags_over (names_at_first path) start lines;
+      late = late_over (names_at_first path) start lines;
     }
 
--- past the end nothing is left
-none_left : (rules : List FileRule) → length rules ≡ 0 → rules ≡ []
-none_left [] e = refl
-none_left (r ∷ rules) e = absurd (omega arith)
+-- where a rule is does not matter to its lints
+never_anywhere : (jump : Option Text) (number start : ℕ) (d : Draft) (l : Landing)
+    → never_reached jump (record { number = 0; start = 0; draft = d; landing = l }) ≡ never_reached jump (record { number = number; start = start; draft = d; landing = l })
+never_anywhere None number start d l = refl
+never_anywhere (Some name) number start d l = refl
 
-pub down_end : (profile : Profile) (path : Text) (kept : List KeptLine) (above : RulesAbove) (spots : List (PlacedFinding Lint)) (rules : List FileRule) (i : ℕ) → Descends profile path kept above spots rules i → length rules ≤ i → spots ≡ lints_of profile path kept rules
-down_end profile path kept above spots rules i before h =
-    let none : drop i rules ≡ [] = none_left (drop i rules) (length-drop i rules ∙ omega arith) in
-    sym (append-nil spots) ∙ ap (λ rs. spots ++ lints_below profile path kept rules (reverse (take i rules)) rs) (sym none) ∙ before.so_far
+spots_anywhere : (profile : Profile) (n : FileNames) (a : RulesAbove) (number start : ℕ) (d : Draft) (l : Landing)
+    → spots_by profile n a (record { number = 0; start = 0; draft = d; landing = l }) ≡ spots_by profile n a (record { number = number; start = start; draft = d; landing = l })
+spots_anywhere profile n a number start d l =
+    ap (λ (found : List (Spot Lint)). lints_of_rule profile d.parts
+    ++ (value_lints n.tagged d.parts
+    ++ (flat_map (imported_below n.imported a.given) d.parts
+    ++ (imported_beside a.given false d.parts
+    ++ (meant_to_compare n.compared d.parts
+    ++ (found
+    ++ (unguarded a.guarded d.parts
+    ++ (no_result a.programs d.parts ++ late_tag n.late a.tag d.parts))))))))
+    (never_anywhere a.jump number start d l)
+
+-- the lints of lines, one after another, are those of their rules
+pub lints_known : (profile : Profile) (path : Text) (kept : List KeptLine) (all : List FileRule) (n : FileNames) → SameNames n (names_of path all)
+    → (start : ℕ) (past : List FileRule) (a : RulesAbove) (lines : Lines) → SameAbove a (left_by past)
+    → lints_over profile n kept a start lines ≡ lints_below profile path kept all past (rules_from start lines)
+lints_known profile path kept all n known start past a [] same = refl
+lints_known profile path kept all n known start past a (x ∷ lines) same =
+    by x.0.read (λ (rs : List FileRule) (b : RulesAbove) (alike : SameAbove b (left_by rs)). lints_known profile path kept all n known (start + length x.0.text) rs b lines alike)
+  where
+    more : ℕ
+    more = start + length x.0.text
+
+    by : (read : Result Draft (Spot MessageKind)) → ((rs : List FileRule) (b : RulesAbove) → SameAbove b (left_by rs) → lints_over profile n kept b more lines ≡ lints_below profile path kept all rs (rules_from more lines))
+        → map (placed kept x.0.line start) (option_map_or (spots_by profile n a) (rule_in read x.1) []) ++ lints_over profile n kept (option_map_or (with_rule a) (rule_in read x.1) a) more lines
+        ≡ lints_below profile path kept all past (rule_before x.0.line start read x.1 (rules_from more lines))
+    by (Err wrong) those = those past a same
+    by (Ok d) those =
+        let r : FileRule = record { number = x.0.line; start = start; draft = d; landing = x.1 } in
+        let here : List (PlacedFinding Lint) = map (placed kept x.0.line start) (spots_of profile path all past r) in
+        ap (λ (found : List (Spot Lint)). map (placed kept x.0.line start) found ++ lints_over profile n kept (with_rule a r) more lines)
+        (spots_anywhere profile n a x.0.line start d x.1 ∙ spots_same profile n (names_of path all) a (left_by past) r known same)
+        ∙ ap (λ (found : List (PlacedFinding Lint)). here ++ found) (those (r ∷ past) (with_rule a r) (left_more a (with_rule a r) past r same refl))
+
+nothing_left : SameAbove nothing_above (left_by [])
+nothing_left = record { given = λ name. refl; jump = refl; guarded = refl; programs = refl; tag = refl }
+
+pub all_known : (profile : Profile) (path : Text) (kept : List KeptLine) (n : FileNames) (lines : Lines) → n ≡ names_in path lines → lints_over profile n kept nothing_above 0 lines ≡ lints_of_lines profile path kept lines
+all_known profile path kept n lines e =
+    ap (λ (m : FileNames). lints_over profile m kept nothing_above 0 lines) e
+    ∙ lints_known profile path kept (rules_from 0 lines) (names_in path lines) (names_known path 0 lines) 0 [] nothing_above lines nothing_left

@@ -4,9 +4,9 @@ ghost use Rattle.text_tables.specs.Texts.{with_texts};
 ghost use Rattle.rule_file_lints.specs.ByName.{comes_before, is_earlier, is_later, is_read, later_families, later_in, own_name};
 
 use rule_lints::rest_after_last;
-use std::alloc::AllocError;
+use std::alloc::{AllocError, Global};
 use std::cmp::Ordering;
-use text_tables::Texts;
+use text_tables::OwnedTexts;
 
 /// Families of properties, each with the first file that imports some of it.
 const FIRST_FILES: [(&[u8], &[u8]); 6] = [
@@ -59,23 +59,28 @@ pub(crate) fn is_later(path: &[u8], other: &[u8]) -> bool
 }
 
 /// Adds the families that only files after this one import.
-pub(crate) fn add_later_families(names: &mut Texts<'_>, path: &[u8]) -> Result<(), AllocError>
+pub(crate) fn add_later_families(
+    alloc: Global,
+    names: &mut OwnedTexts,
+    path: &[u8],
+) -> Result<(), AllocError>
     ensures { OnOk result (names.new ≡ with_texts names.old (later_families path.now)) }
 {
-    add_later(names, &FIRST_FILES, path)
+    add_later(alloc, names, &FIRST_FILES, path)
 }
 
 /// Adds those of these families of which a file is before the first file.
-fn add_later<'a>(
-    names: &mut Texts<'a>,
-    rows: &[(&'a [u8], &[u8])],
+fn add_later(
+    alloc: Global,
+    names: &mut OwnedTexts,
+    rows: &[(&[u8], &[u8])],
     path: &[u8],
 ) -> Result<(), AllocError>
     ensures { OnOk result (names.new ≡ with_texts names.old (later_in (map (λ row. (row.0.now, row.1.now)) rows.now) path.now)) }
 {
     for row in rows {
         if is_earlier(path, row.1) {
-            names.add(row.0)?;
+            names.add(alloc, row.0)?;
         }
     }
     Ok(())

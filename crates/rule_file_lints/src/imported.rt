@@ -8,8 +8,8 @@ ghost use Rattle.rule_file_lints.specs.Imported.{perhaps_in_act_kind};
 use rule_core::WrittenPart;
 use rule_lints::first_word;
 use rule_types::{ActKind, Change, Import, Part, Target};
-use std::alloc::AllocError;
-use text_tables::Texts;
+use std::alloc::{AllocError, Global};
+use text_tables::OwnedTexts;
 
 /// Builtins, each with a family of properties that it imports: what their names begin with, and then a `*`.
 const FAMILIES: [(&[u8], &[u8]); 6] = [
@@ -25,63 +25,65 @@ const FAMILIES: [(&[u8], &[u8]); 6] = [
 const ANY_PROPERTY: &[u8] = b"*";
 
 /// Adds what the tokens of a rule import.
-pub(crate) fn add_imported<'a>(
-    names: &mut Texts<'a>,
-    tokens: &'a [WrittenPart<'_>],
+pub(crate) fn add_imported(
+    alloc: Global,
+    names: &mut OwnedTexts,
+    tokens: &[WrittenPart<'_>],
 ) -> Result<(), AllocError>
     ensures { OnOk result (names.new ≡ with_texts names.old (imported_by tokens.now)) }
 {
     for token in tokens {
-        add_imports(names, &token.part)?;
+        add_imports(alloc, names, &token.part)?;
     }
     Ok(())
 }
 
 /// Adds what the tokens of a rule import, may import or assign.
-pub(crate) fn add_given<'a>(
-    names: &mut Texts<'a>,
-    tokens: &'a [WrittenPart<'_>],
+pub(crate) fn add_given(
+    alloc: Global,
+    names: &mut OwnedTexts,
+    tokens: &[WrittenPart<'_>],
 ) -> Result<(), AllocError>
     ensures { OnOk result (names.new ≡ with_texts names.old (given_by tokens.now)) }
 {
     for token in tokens {
-        add_imports(names, &token.part)?;
-        add_perhaps(names, &token.part)?;
-        add_assigned(names, &token.part)?;
+        add_imports(alloc, names, &token.part)?;
+        add_perhaps(alloc, names, &token.part)?;
+        add_assigned(alloc, names, &token.part)?;
     }
     Ok(())
 }
 
 /// Adds what a part of a rule imports.
-fn add_imports<'a>(names: &mut Texts<'a>, part: &'a Part) -> Result<(), AllocError>
+fn add_imports(alloc: Global, names: &mut OwnedTexts, part: &Part) -> Result<(), AllocError>
     ensures { OnOk result (names.new ≡ with_texts names.old (imported_in part.now)) }
 {
     match part {
-        Part::Act(act) => add_act_kind(names, &act.kind),
+        Part::Act(act) => add_act_kind(alloc, names, &act.kind),
         _ => Ok(()),
     }
 }
 
 /// Adds what an act imports.
-fn add_act_kind<'a>(names: &mut Texts<'a>, act_kind: &'a ActKind) -> Result<(), AllocError>
+fn add_act_kind(alloc: Global, names: &mut OwnedTexts, act_kind: &ActKind) -> Result<(), AllocError>
     ensures { OnOk result (names.new ≡ with_texts names.old (names_in_act_kind act_kind.now)) }
 {
     match act_kind {
-        ActKind::Import(import) => add_import(names, import),
+        ActKind::Import(import) => add_import(alloc, names, import),
         _ => Ok(()),
     }
 }
 
 /// Adds what an IMPORT imports.
-fn add_import<'a>(names: &mut Texts<'a>, import: &'a Import) -> Result<(), AllocError>
+fn add_import(alloc: Global, names: &mut OwnedTexts, import: &Import) -> Result<(), AllocError>
     ensures { OnOk result (names.new ≡ with_texts names.old (names_in_import import.now)) }
 {
     match import {
         Import::Builtin(command) => {
-            add_families(names, &FAMILIES, first_word(command.written()))?;
+            add_families(alloc, names, &FAMILIES, first_word(command.written()))?;
         }
         Import::Cmdline(name) => {
-            names.add(name.as_slice())?;
+            names.add(alloc, name.as_slice())?;
         }
         _ => {}
     }
@@ -89,55 +91,62 @@ fn add_import<'a>(names: &mut Texts<'a>, import: &'a Import) -> Result<(), Alloc
 }
 
 /// Adds the families that a builtin imports.
-fn add_families<'a>(
-    names: &mut Texts<'a>,
-    rows: &[(&[u8], &'a [u8])],
+fn add_families(
+    alloc: Global,
+    names: &mut OwnedTexts,
+    rows: &[(&[u8], &[u8])],
     builtin: &[u8],
 ) -> Result<(), AllocError>
     ensures { OnOk result (names.new ≡ with_texts names.old (families_in (map (λ row. (row.0.now, row.1.now)) rows.now) builtin.now)) }
 {
     for row in rows {
         if row.0 == builtin {
-            names.add(row.1)?;
+            names.add(alloc, row.1)?;
         }
     }
     Ok(())
 }
 
 /// Adds what a part of a rule may import.
-fn add_perhaps<'a>(names: &mut Texts<'a>, part: &'a Part) -> Result<(), AllocError>
+fn add_perhaps(alloc: Global, names: &mut OwnedTexts, part: &Part) -> Result<(), AllocError>
     ensures { OnOk result (names.new ≡ with_texts names.old (perhaps_in part.now)) }
 {
     match part {
-        Part::Act(act) => add_perhaps_by(names, &act.kind),
+        Part::Act(act) => add_perhaps_by(alloc, names, &act.kind),
         _ => Ok(()),
     }
 }
 
 /// Adds what an act may import.
-fn add_perhaps_by<'a>(names: &mut Texts<'a>, act_kind: &'a ActKind) -> Result<(), AllocError>
+fn add_perhaps_by(
+    alloc: Global,
+    names: &mut OwnedTexts,
+    act_kind: &ActKind,
+) -> Result<(), AllocError>
     ensures { OnOk result (names.new ≡ with_texts names.old (perhaps_in_act_kind act_kind.now)) }
 {
     match act_kind {
-        ActKind::Import(import) => add_named(names, import),
+        ActKind::Import(import) => add_named(alloc, names, import),
         _ => Ok(()),
     }
 }
 
 /// Adds the property that an IMPORT names in the database or in the parent, or every property.
-fn add_named<'a>(names: &mut Texts<'a>, import: &'a Import) -> Result<(), AllocError>
+fn add_named(alloc: Global, names: &mut OwnedTexts, import: &Import) -> Result<(), AllocError>
     ensures { OnOk result (names.new ≡ with_texts names.old (names_perhaps import.now)) }
 {
     match import {
         Import::Program(_) | Import::File(_) => {
-            names.add(ANY_PROPERTY)?;
+            names.add(alloc, ANY_PROPERTY)?;
         }
-        Import::Builtin(command) => add_unless_known(names, first_word(command.written()))?,
+        Import::Builtin(command) => {
+            add_unless_known(alloc, names, first_word(command.written()))?;
+        },
         Import::Db(name) => {
-            names.add(name.as_slice())?;
+            names.add(alloc, name.as_slice())?;
         }
         Import::Parent(_, value) => {
-            names.add(named_of_parent(value.as_slice()))?;
+            names.add(alloc, named_of_parent(value.as_slice()))?;
         }
         Import::Cmdline(_) => {}
     }
@@ -145,11 +154,11 @@ fn add_named<'a>(names: &mut Texts<'a>, import: &'a Import) -> Result<(), AllocE
 }
 
 /// Adds every property if a builtin has no family here.
-fn add_unless_known(names: &mut Texts<'_>, builtin: &[u8]) -> Result<(), AllocError>
+fn add_unless_known(alloc: Global, names: &mut OwnedTexts, builtin: &[u8]) -> Result<(), AllocError>
     ensures { OnOk result (names.new ≡ with_texts names.old (else_any (families_in families builtin.now))) }
 {
     if !has_families(&FAMILIES, builtin) {
-        names.add(ANY_PROPERTY)?;
+        names.add(alloc, ANY_PROPERTY)?;
     }
     Ok(())
 }
@@ -185,33 +194,33 @@ fn names_several(value: &[u8]) -> bool
 }
 
 /// Adds the property that a part of a rule assigns.
-fn add_assigned<'a>(names: &mut Texts<'a>, part: &'a Part) -> Result<(), AllocError>
+fn add_assigned(alloc: Global, names: &mut OwnedTexts, part: &Part) -> Result<(), AllocError>
     ensures { OnOk result (names.new ≡ with_texts names.old (assigned_in part.now)) }
 {
     if let Part::Set(assignment) = part {
         if let Change::Text(Target::Env(name), _) = &assignment.change {
-            names.add(name.as_slice())?;
+            names.add(alloc, name.as_slice())?;
         }
     }
     Ok(())
 }
 
 /// Whether a property is among names, or of a family among them.
-pub(crate) fn has_property(names: &Texts<'_>, name: &[u8]) -> bool
+pub(crate) fn has_property(names: &OwnedTexts, name: &[u8]) -> bool
     ensures { result ≡ has_property names.now name.now }
 {
     names.contains(name) || has_family(names, &FAMILIES, name)
 }
 
 /// Whether names that are given have a property, a family of it, or every property.
-pub(crate) fn is_given(names: &Texts<'_>, name: &[u8]) -> bool
+pub(crate) fn is_given(names: &OwnedTexts, name: &[u8]) -> bool
     ensures { result ≡ is_given names.now name.now }
 {
     names.contains(ANY_PROPERTY) || has_property(names, name)
 }
 
 /// Whether a family of a property is among names.
-fn has_family(names: &Texts<'_>, rows: &[(&[u8], &[u8])], name: &[u8]) -> bool
+fn has_family(names: &OwnedTexts, rows: &[(&[u8], &[u8])], name: &[u8]) -> bool
     ensures { result ≡ has_family names.now (map (λ row. (row.0.now, row.1.now)) rows.now) name.now }
 {
     for row in rows {

@@ -11,14 +11,14 @@ use rule_types::{MatchOperator, Part, PlainKey};
 use std::alloc::{AllocError, Global};
 use text_bytes::Bytes;
 use text_core::Choice;
-use text_tables::Texts;
+use text_tables::OwnedTexts;
 
 /// Adds the matches of a rule that ask for properties that its file imports, if these are not given before.
 pub(crate) fn add_imported_below(
     alloc: Global,
     spots: &mut Vec<Spot<Lint>>,
-    imported: &Texts<'_>,
-    given: &Texts<'_>,
+    imported: &OwnedTexts,
+    given: &OwnedTexts,
     tokens: &[WrittenPart<'_>],
 ) -> Result<(), AllocError>
     ensures { OnOk result (spots.new.items ≡ spots.old.items ++ flat_map (imported_below imported.now given.now) tokens.now) }
@@ -33,8 +33,8 @@ pub(crate) fn add_imported_below(
 fn add_token(
     alloc: Global,
     spots: &mut Vec<Spot<Lint>>,
-    imported: &Texts<'_>,
-    given: &Texts<'_>,
+    imported: &OwnedTexts,
+    given: &OwnedTexts,
     token: &WrittenPart<'_>,
 ) -> Result<(), AllocError>
     ensures { OnOk result (spots.new.items ≡ spots.old.items ++ imported_below imported.now given.now token.now) }
@@ -53,7 +53,7 @@ fn add_token(
 pub(crate) fn add_imported_beside(
     alloc: Global,
     spots: &mut Vec<Spot<Lint>>,
-    given: &Texts<'_>,
+    given: &OwnedTexts,
     tokens: &[WrittenPart<'_>],
 ) -> Result<(), AllocError>
     ensures { OnOk result (spots.new.items ≡ spots.old.items ++ imported_beside given.now false tokens.now) }
@@ -70,7 +70,7 @@ pub(crate) fn add_imported_beside(
 fn add_if_imported(
     alloc: Global,
     spots: &mut Vec<Spot<Lint>>,
-    given: &Texts<'_>,
+    given: &OwnedTexts,
     imported: bool,
     token: &WrittenPart<'_>,
 ) -> Result<(), AllocError>
@@ -86,7 +86,7 @@ fn add_if_imported(
 fn add_late(
     alloc: Global,
     spots: &mut Vec<Spot<Lint>>,
-    given: &Texts<'_>,
+    given: &OwnedTexts,
     token: &WrittenPart<'_>,
 ) -> Result<(), AllocError>
     ensures { OnOk result (spots.new.items ≡ spots.old.items ++ late_spots given.now token.now (wanted_in token.now.part)) }

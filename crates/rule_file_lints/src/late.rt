@@ -1,10 +1,7 @@
 //! W27: the tag `uaccess` in a file that udev evaluates after the one that reads it.
 ghost use Rattle.std.specs.Prelude.{◌≡◌, ◌++◌, OnOk, find, option_map};
-ghost use Rattle.std.specs.List.{list_any};
-ghost use Rattle.rule_file_lints.specs.Late.{are_late, gives_access, has_access, has_tag, is_giving, late_tag, runs_access};
+ghost use Rattle.rule_file_lints.specs.Late.{gives_access, has_access, has_tag, is_giving, late_tag, runs_access};
 
-use crate::by_name::is_later;
-use crate::file_rule::FileRule;
 use crate::guarded::add_first;
 use rule_core::{Spot, WrittenPart};
 use rule_lints::{Lint, first_word};
@@ -12,7 +9,7 @@ use rule_tokens::{Operator, Token};
 use std::alloc::{AllocError, Global};
 
 /// The file of systemd that gives users at a seat access to a device with the tag.
-const ACCESS_FILE: &[u8] = b"73-seat-late.rules";
+pub(crate) const ACCESS_FILE: &[u8] = b"73-seat-late.rules";
 
 /// Whether an operator gives a value.
 fn is_giving(operator: Operator) -> bool
@@ -41,33 +38,10 @@ fn runs_access(token: &Token<'_>) -> bool
 }
 
 /// Whether a rule with these tokens runs it.
-fn has_access(tokens: &[WrittenPart<'_>]) -> bool
+pub(crate) fn has_access(tokens: &[WrittenPart<'_>]) -> bool
     ensures { result ≡ has_access tokens.now }
 {
     tokens.iter().any(|written| runs_access(&written.token))
-}
-
-/// Whether a rule of a file runs it.
-fn is_run_by(rule: &FileRule<'_, '_>) -> bool
-    ensures { result ≡ has_access rule.now.draft.parts }
-{
-    let draft = rule.draft;
-    has_access(&draft.parts)
-}
-
-/// Whether one of these rules runs it.
-fn have_access(rules: &[FileRule<'_, '_>]) -> bool
-    ensures { result ≡ list_any (λ r. has_access r.draft.parts) rules.now }
-{
-    rules.iter().any(|rule| is_run_by(rule))
-}
-
-/// Whether the tag comes too late in these rules of a file: the file that reads it comes before, and none of them runs
-/// the builtin.
-pub(crate) fn are_late(path: &[u8], rules: &[FileRule<'_, '_>]) -> bool
-    ensures { result ≡ are_late path.now rules.now }
-{
-    is_later(path, ACCESS_FILE) && !have_access(rules)
 }
 
 /// Whether a rule gives the tag.

@@ -10,7 +10,6 @@ mod by_name;
 mod file_laws;
 mod file_lints;
 mod file_rule;
-mod file_rules;
 mod guarded;
 mod imported;
 mod imported_below;
@@ -25,4 +24,4 @@ pub use file_laws::{
     lints_are_those_of_the_rules, rules_that_are_reached_are_not_reported, some_late_files,
     some_later_families, some_tokens_of_access,
 };
-pub use file_lints::lints_of_lines;
+pub use file_lints::{FileNames, RulesAbove, lints_of_line, lints_of_lines};

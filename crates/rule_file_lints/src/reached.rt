@@ -1,5 +1,5 @@
 //! Rules that no rule leads to.
-ghost use Rattle.std.specs.Prelude.{◌≡◌, ◌++◌, OnOk, option_map};
+ghost use Rattle.std.specs.Prelude.{◌≡◌, ◌++◌, IfOk, OnOk};
 ghost use Rattle.rule_file_lints.specs.Reached.{first_spot, is_labelled, jumps_to, may_go_on, never_reached};
 
 use crate::file_rule::FileRule;
@@ -10,16 +10,16 @@ use std::alloc::{AllocError, Global};
 use text_bytes::Bytes;
 
 /// The label of a later rule to which a rule jumps for every device.
-pub(crate) fn jumps_to<'a>(rule: &'a FileRule<'_, '_>) -> Option<&'a [u8]>
-    ensures { option_map (λ t. t.now) result ≡ jumps_to rule.now }
+pub(crate) fn jumps_to(alloc: Global, rule: &FileRule<'_, '_>) -> Result<Option<Bytes>, AllocError>
+    ensures { IfOk result (λ label. label ≡ jumps_to rule.now) }
 {
     let draft = rule.draft;
     if may_go_on(rule) {
-        return None;
+        return Ok(None);
     }
     match &draft.goto {
-        None => None,
-        Some(place) => Some(place.name.as_slice()),
+        None => Ok(None),
+        Some(place) => Ok(Some(Bytes::copy_of(alloc, place.name.as_slice())?)),
     }
 }
 
@@ -36,10 +36,10 @@ fn may_go_on(rule: &FileRule<'_, '_>) -> bool
 pub(crate) fn add_never_reached(
     alloc: Global,
     spots: &mut Vec<Spot<Lint>>,
-    above: Option<&[u8]>,
+    above: &Option<Bytes>,
     rule: &FileRule<'_, '_>,
 ) -> Result<(), AllocError>
-    ensures { OnOk result (spots.new.items ≡ spots.old.items ++ never_reached (option_map (λ t. t.now) above.entry) rule.now) }
+    ensures { OnOk result (spots.new.items ≡ spots.old.items ++ never_reached above.now rule.now) }
 {
     match above {
         None => Ok(()),
@@ -48,7 +48,7 @@ pub(crate) fn add_never_reached(
                 Ok(())
             } else {
                 let draft = rule.draft;
-                add_first(alloc, spots, name, &draft.parts)
+                add_first(alloc, spots, name.as_slice(), &draft.parts)
             }
         }
     }

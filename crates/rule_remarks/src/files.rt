@@ -36,8 +36,8 @@ pub fn remarks_of_lines(
     Ok(reported)
 }
 
-/// What is reported for a line, if it was read as a rule.
-fn line_remarks(
+/// What udev reports about a line, if it was read as a rule.
+pub fn line_remarks(
     alloc: Global,
     accounts: &Accounts,
     read: &Result<Draft<'_>, Spot<MessageKind>>,

@@ -15,7 +15,7 @@ mod token_remarks;
 mod values;
 
 pub use account_lines::read_accounts;
-pub use files::remarks_of_lines;
+pub use files::{line_remarks, remarks_of_lines};
 pub use laws::{
     late_programs_follow_results, lines_never_fall, no_tokens_have_no_remarks,
     remarks_are_reported_for_rules, some_accounts, the_manual_reports_findings_alone,

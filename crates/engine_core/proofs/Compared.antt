@@ -5,6 +5,7 @@ use Rattle.engine_ends.specs.Streams.{Streams, outputs}
 use Rattle.engine_ends.specs.Readers.{is_for_people}
 use Rattle.engine_ends.specs.declared.line.Line.{Line}
 use Rattle.engine_ends.specs.Delivery.{RunOutcome, Delivers, ReportsFailure, ReportsFaults, out_of_memory}
+use Rattle.engine_formats.specs.Masked.{shown_in}
 use Rattle.engine_reports.specs.Openings.{OpeningValue}
 use Rattle.engine_reports.specs.Indexes.{refused_index}
 use Rattle.engine_reports.specs.Outcomes.{too_many_entries, too_many_rules}
@@ -26,7 +27,7 @@ use Rattle.engine_core.specs.Comparing.{ComparesBy, both_messages, compare_outco
 pub compares_serve : (old_line new_line : Line) (old_found new_found : FilesFound) (old new : Result OpeningValue RunOutcome) (status : ℕ) (before now : Streams)
     → ComparesBy old_line new_line old_found new_found old new status before now → Serves (compare_outcome old_line new_line old_found new_found old new) status before now
 compares_serve old_line new_line old_found new_found (Ok old) (Ok new) status before now r =
-    finds_serve (is_for_people old_line.format) (both_messages old.messages new.messages) (answers_as old_line.profile (differences_by old_line new_line old_found new_found old new)) status before now r
+    finds_serve (is_for_people old_line.format) (shown_in old_line.format (both_messages old.messages new.messages)) (answers_as old_line.profile (differences_by old_line new_line old_found new_found old new)) status before now r
 compares_serve old_line new_line old_found new_found (Ok old) (Err said) status before now r = reports_serve (λ text. said) said status before now (λ text. refl) r
 compares_serve old_line new_line old_found new_found (Err said) new status before now r = reports_serve (λ text. said) said status before now (λ text. refl) r
 

@@ -19,6 +19,7 @@ use Rattle.engine_courses.specs.Questions.{question_answer}
 use Rattle.engine_ends.specs.Delivery.{RunOutcome}
 use Rattle.engine_ends.specs.Readers.{is_for_people}
 use Rattle.engine_ends.specs.declared.line.Line.{Line}
+use Rattle.engine_formats.specs.Masked.{shown_in}
 use Rattle.engine_reports.specs.Openings.{OpeningValue}
 use Rattle.engine_sessions.specs.Answers.{answers_to, well, with_block}
 use Rattle.engine_sessions.specs.Outcomes.{answered, input_outcome}
@@ -52,9 +53,9 @@ module _ (line : Line) (found : FilesFound) (opening : OpeningValue) (more : ask
   pub event_answer : line.unused ≡ false → (profile : Profile) → line.profile ≡ profile → (input block : Text) (event : EventValue) → runs input ≡ block ∷ [] → block_gives block ≡ Ok event
       → (outcome_by line found (Ok opening) input).output ≡ answer_by opening.rules known (by_profile profile event)
   event_answer unused profile is input block event one gives =
-      let own : RunOutcome = input_outcome (is_for_people line.format) opening.messages (answer_with line found opening) input in
+      let own : RunOutcome = input_outcome (is_for_people line.format) (shown_in line.format opening.messages) (answer_with line found opening) input in
       ap (λ (b : Bool). (cond {A = RunOutcome} b (with_said (unused_of line found opening input) own) own).output) unused
-      ∙ one_answer (is_for_people line.format) opening.messages (answer_with line found opening) input block event one gives
+      ∙ one_answer (is_for_people line.format) (shown_in line.format opening.messages) (answer_with line found opening) input block event one gives
       ∙ plain_answer (by_profile line.profile event)
       ∙ ap (λ (p : Profile). answer_by opening.rules known (by_profile p event)) is
 
@@ -81,7 +82,7 @@ module _ (old_line new_line : Line) (old_found new_found : FilesFound) (old new 
       → (compare_outcome old_line new_line old_found new_found (Ok old) (Ok new) input).output
       ≡ differences (by_profile old_line.profile event) (itself (outcome_by old_line old_found (Ok old) input).output) (itself (outcome_by new_line new_found (Ok new) input).output)
   compared_answers same old_questions old_unused new_questions new_unused input block event one gives =
-      one_answer (is_for_people old_line.format) (both_messages old.messages new.messages) (answers_as old_line.profile (differences_by old_line new_line old_found new_found old new)) input block event one gives
+      one_answer (is_for_people old_line.format) (shown_in old_line.format (both_messages old.messages new.messages)) (answers_as old_line.profile (differences_by old_line new_line old_found new_found old new)) input block event one gives
       ∙ plain_differences (by_profile old_line.profile event)
       ∙ sym (ap₂ (λ (a b : Text). differences (by_profile old_line.profile event) (itself a) (itself b))
       (event_answer old_line old_found old old_more old_questions old_unused old_line.profile refl input block event one gives)

@@ -11,6 +11,7 @@ ghost use Rattle.device_core.specs.Faults.{block_gives};
 ghost use Rattle.device_core.specs.Runs.{runs};
 ghost use Rattle.device_core.specs.Values.{EventValue, by_profile};
 ghost use Rattle.engine_ends.specs.EventLine.{event_line};
+ghost use Rattle.engine_formats.specs.Masked.{shown_in};
 ghost use Rattle.engine_compare.specs.Differences.{differences, itself};
 ghost use Rattle.engine_compare.specs.Objects.{compared};
 ghost use Rattle.engine_core.specs.Comparing.{compare_outcome, compared_answer};
@@ -61,10 +62,10 @@ pub fn what_differs_makes_the_status()
 {}
 
 /// If both sides can be opened, the messages of `compare` begin with those about the old rules, each line after `[OLD] `, and
-/// go on with those about the new ones, each line after `[NEW] `.
+/// go on with those about the new ones, each line after `[NEW] `; for people signs stand in them for what a terminal obeys.
 pub fn messages_say_which_rules_they_are_about()
     ensures { (old_line new_line : Line) (old_found new_found : FilesFound) (old new : OpeningValue) (input : Text)
         → (later : Text) × ((compare_outcome old_line new_line old_found new_found (Ok old) (Ok new) input).messages
-        ≡ (flat_map (λ line. codes "[OLD] " ++ line ++ newline ∷ []) (lines old.messages)
+        ≡ shown_in old_line.format (flat_map (λ line. codes "[OLD] " ++ line ++ newline ∷ []) (lines old.messages)
         ++ flat_map (λ line. codes "[NEW] " ++ line ++ newline ∷ []) (lines new.messages)) ++ later) }
 {}

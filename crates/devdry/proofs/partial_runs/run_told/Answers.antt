@@ -1,4 +1,5 @@
 use Rattle.std.proofs.Common.{◌≡◌, inl, rules, subst}
+use Rattle.engine_formats.specs.Masked.{shown_in}
 use Rattle.devdry.specs.Finding.{RunsFinding}
 use Rattle.devdry.specs.Noting.{AreNotesOf}
 use Rattle.devdry.specs.PartialRuns.{RunsAfter, RunsNoted}
@@ -13,7 +14,7 @@ returns-in-Ok g c =
     inl (record {
       notes = c.in-Ok.notes.items;
       are_notes = subst (λ files. AreNotesOf may c.args.line.now files c.in-Ok.notes.items) files c.in-Ok.ensures;
-      runs = subst (λ notes. RunsAfter some.report.lines.items some.report.least (RunsNoted notes (RunsFinding may c.args.line.now some.files.items some.index)) c.run_over.result
+      runs = subst (λ notes. RunsAfter (shown_in c.args.line.now.format some.report.lines.items) some.report.least (RunsNoted notes (RunsFinding may c.args.line.now some.files.items some.index)) c.run_over.result
           (record { input = g.I.Source.shown c.args.input.now; out = g.W.Sink.shown c.args.output.now; err = g.E.Sink.shown c.args.error.now })
           (record { input = g.I.Source.shown c.run_over.new.input; out = g.W.Sink.shown c.run_over.new.output; err = g.E.Sink.shown c.run_over.new.error })) told c.run_over.ensures;
     })

@@ -55,10 +55,11 @@ use Rattle.link_lints.specs.Joined.{joined_after, joined_lines}
 use Rattle.link_lints.specs.Keys.{form_of as link_form_of}
 use Rattle.link_lints.specs.Matching.{asks_address, asks_machine, asks_name, asks_system, link_faults}
 use Rattle.builtin_devices.specs.Numbers.{digits_in, is_below_zero, name_number, number_in, written}
-use Rattle.builtin_link.specs.Checks.{address_check, checks_of, kind_checks, known_check, name_checks, permanent_address, property_check, text_check}
+use Rattle.builtin_link.specs.Checks.{address_check, checks_of, kind_checks, kind_check, known_check, name_checks, permanent_address, property_check, text_check}
 use Rattle.builtin_link.specs.Globs.{passes}
 use Rattle.builtin_link.specs.Hardware.{hardware_name, type_text}
 use Rattle.builtin_link.specs.Link.{by_files, net_setup_link}
+use Rattle.builtin_link.specs.Machines.{written_holds}
 use Rattle.builtin_link.specs.Policies.{given_name, keeps_name, name_of, new_name, policies_count, policies_of, property_of}
 use Rattle.text_bytes.specs.Numbers.{decimal_below}
 use Rattle.text_bytes.specs.Texts.{split_once}
@@ -186,7 +187,7 @@ reading_databases = tt
 unfoldable reading_links : ⊤
 unfolding is_no is_yes is_drop_in link_file link_files listed_path is_comment joined_from stripped is_list last_of list_of texts_of
     with_texts_of is_interface_name section_of with_file with_line is_whole split split_byte link_words_of
-    digits_in is_below_zero name_number number_in written address_check checks_of kind_checks known_check name_checks
+    digits_in is_below_zero name_number number_in written address_check checks_of kind_check kind_checks known_check name_checks written_holds
     permanent_address property_check text_check passes hardware_name type_text by_files net_setup_link given_name
     keeps_name name_of new_name policies_count policies_of property_of
 reading_links = tt

@@ -202,7 +202,7 @@ pub fn what_udev_leaves_out_says_why()
         ≡ text (
         codes "event add /h/d" ∷ codes "env ACTION=add" ∷ codes "env DEVPATH=/h/d" ∷ codes "env SUBSYSTEM=m" ∷ codes "note r.rules:1: no device number: OWNER"
         ∷ codes "note r.rules:1: no device number: SYMLINK" ∷ codes "note r.rules:2: name ignored: n"
-        ∷ codes "why r.rules:1: SUBSYSTEMS==\"u\": d fails, \"\", h holds" ∷ codes "why r.rules:1: h would meet all"
+        ∷ codes "why r.rules:1: SUBSYSTEMS==\"u\": d fails, m, h holds" ∷ codes "why r.rules:1: h would meet all"
         ∷ codes "why r.rules:1: skipped: OWNER does nothing without a device number, SYMLINK does nothing without a device number"
         ∷ codes "why r.rules:2: skipped: NAME does nothing without an interface (IFINDEX)"
         ∷ codes "why r.rules:3: skipped: OPTIONS does nothing at an event" ∷ codes "why r.rules:4: reached its end"

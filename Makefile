@@ -83,7 +83,8 @@ check:
 # Tries the wrong bodies that the prover has to refuse and that `make check` leaves out, those in crates/*/mutants: to
 # be run for each crate that a change touches, such as `make mutants NAME="text_core hwdb_core"`, on what is committed.
 # Without NAME it tries those of all crates, which takes an hour if their proofs are kept. Then it tries the wrong
-# definitions that laws of these crates have to refuse, those in crates/*/definitions.
+# definitions that laws of these crates have to refuse, those in crates/*/definitions. What became of wrong bodies is written into
+# tests/tried.txt.
 mutants:
 	@tools/needs.sh 12
 	tests/mutants.py $(NAME)

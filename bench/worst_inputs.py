@@ -189,6 +189,8 @@ RULES = [
     Case("users and groups, and rules with one of each", 800, owned),
     Case("files of four rules that are looked at for lints", 800, lambda n: (["verify", "--lint", "-r", "."], {
         f"etc/udev/rules.d/{number:05}.rules": each('KERNEL=="a#", NAME="n"\n', 4) for number in range(n)}, "")),
+    *(Case(f"tokens {token} of each of 40 lines", 80, lambda n, token=token: verify((each(f"{token}, ", n) + 'TAG+="x"\n') * 40))
+      for token in ('KERNEL=="a*#"', 'KERNEL=="a|#"', 'KERNEL!="a|#"', 'ATTR{#}=="a"', 'SYMLINK+="#"')),
     Case("lines joined into one", 100_000, lambda n: verify("a\\\n" * n)),
     Case("bytes of a line", 1_000_000, lambda n: verify('"' * n)),
     Case("messages", 10_000, lambda n: verify("x\n" * n)),

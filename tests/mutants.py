@@ -6,9 +6,11 @@ what the crates' own checks have kept, so only what an edit changes is proved ag
 Edits of different functions are tried in one check, in which each changed function has to be refused for its own body,
 not for one that it calls. An edit that was not refused that way, and one that changes more than bodies, is tried alone,
 as the gate tries those in must-fail/. Each edit is reported in a line, and the last line is `N refused, M not refused`;
-an edit that could not be tried, or that is refused without a reason in its crate, counts as not refused.
+an edit that could not be tried, or that is refused without a reason in its crate, counts as not refused. What became of a
+crate's edits, over which commit and on which day, is written into tests/tried.txt.
 usage: tests/mutants.py [CRATE..]    RT is the toolchain's command, rt by default"""
 
+import datetime
 import os
 import pathlib
 import re
@@ -236,11 +238,20 @@ class Crate:
             self.try_alone(left)
 
 
+def record(top, commit, crate):
+    """Writes into tests/tried.txt how many wrong bodies of a crate were refused and how many not, in place of what is there of it."""
+    path = top / "tests/tried.txt"
+    lines = [line for line in path.read_text(encoding="utf-8").splitlines() if line.split()[0] != crate.folder.name]
+    lines.append(f"{crate.folder.name} {crate.refused} {crate.others} {commit} {datetime.date.today()}")
+    path.write_text("".join(f"{line}\n" for line in sorted(lines)), encoding="utf-8")
+
+
 def main(names):
     top = pathlib.Path(__file__).resolve().parent.parent
     with tempfile.TemporaryDirectory(prefix="mutants-") as work:
         clone = pathlib.Path(work) / "devdry"
         subprocess.run(["git", "clone", "-q", top, clone], check=True)
+        commit = subprocess.run(["git", "rev-parse", "--short=8", "HEAD"], cwd=clone, capture_output=True, encoding="utf-8", check=True).stdout.strip()
         crates = re.findall(r"(?m)^(\w+).*:", (clone / "crates.txt").read_text(encoding="utf-8"))
         for name in names:
             if name not in crates:
@@ -255,6 +266,7 @@ def main(names):
             if edits and (not names or name in names):
                 crate = Crate(clone / "crates" / name)
                 crate.try_all(edits)
+                record(top, commit, crate)
                 refused += crate.refused
                 others += crate.others
         print(f"{refused} refused, {others} not refused")

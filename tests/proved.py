@@ -1,25 +1,28 @@
 #!/usr/bin/env python3
-"""Reads docs/proved.md and docs/architecture.md, and reports what they name that the source does not have.
+"""Reads docs/proved.md, docs/architecture.md and docs/walk.md, and reports what they name that the source does not have; or lists the laws.
 
-usage: tests/proved.py [--write]    with --write, the list of laws in docs/proved.md is made anew first
+usage: tests/proved.py [--list [CRATE].. | --write]
+with --list, it prints each law of these crates, or of all, with the first sentence above it, in place of the report;
+with --write, it writes the number of laws into docs/proved.md first
 
 - Each `crate::function` or `crate::Type::function` in them is a function of that crate, of that type or trait, and has a
   contract. Names in brackets after it, (`one`, `two`), are clauses of that contract.
-- docs/proved.md lists each law with the first sentence above it. A law is a public function of a crate of crates.txt that
-  has clauses, no result, and an empty body or one that only calls other laws; examples, which begin with `some_`, are not listed.
+- Each law has a sentence above it, which no other law has, and docs/proved.md says how many there are. A law is a public
+  function of a crate of crates.txt that has clauses, no result, and an empty body or one that only calls other laws; examples,
+  which begin with `some_`, don't count.
 - The crates of the kit that docs/proved.md names as trusted are those that crates.txt names.
 - Each block of code in it after ```text PATH is a part of the file PATH, unchanged.
 
 Prints a line `ok CASE` for each of these, or `not ok CASE` with what is missing.
 """
 import re
+import signal
 import sys
 from pathlib import Path
 
 TOP = Path(__file__).resolve().parent.parent
-# What stands directly before and after the list of laws.
-FIRST = "what it says, in the words above its contract.\n\n"
-LAST = "## When something is refused"
+# Where docs/proved.md says how many laws there are.
+COUNT = re.compile(r"^There are (\d+) laws in (\d+) crates", re.M)
 # A law: its name, parameters that it may have, its clauses, and no body but calls of other laws.
 LAW = re.compile(r"^pub fn (\w+)(?:<[^>]*>)?\([^)]*\)\n(?=(?: +//.*\n)* +ensures)(?: +.*\n)*(?:\{\}|\{\n(?:    \w+\(\);\n)+\})$", re.M)
 HEAD = re.compile(r"^(?:pub )?(?:impl(?:<[^>]*>)? (?:[\w]+(?:<[^{]*?>)? for )?(\w+)|trait (\w+))|^( *)(?:pub(?:\(crate\))? )?fn (\w+)", re.M)
@@ -65,14 +68,15 @@ def named_functions(page, crates):
 
 
 def sentence_above(lines):
-    """The first sentence of the comment that these lines end in, with nothing but attributes behind it."""
+    """The first sentence of the comment that these lines end in, with nothing but attributes behind it; empty if there is none."""
     said = []
     for line in reversed(lines):
         if line.startswith("///"):
             said.insert(0, line[3:].strip())
         elif said or not (line.startswith(("#[", ")", " ")) or line.endswith(",")):
             break
-    return re.match(r"(?:The law of [^.:]*\. +)?(.*?\.)(?: |$)", " ".join(said))[1]
+    found = re.match(r"(?:The law of [^.:]*\. +)?(.*?\.)(?: |$)", " ".join(said))
+    return found[1] if found else ""
 
 
 def laws_in(text):
@@ -82,15 +86,26 @@ def laws_in(text):
             yield law[1], sentence_above(text[:law.start()].splitlines())
 
 
-def listed_laws(crates):
-    """The list of laws, as docs/proved.md has it: a heading for each crate, and below it a line for each law."""
-    lines = []
+def laws_of(crates):
+    """The laws of these crates: of each crate that has some, its name and theirs, each with its sentence."""
     for crate in crates:
         paths = sorted((TOP / "crates" / crate / "src").rglob("*.rt"))
         found = [law for path in paths for law in laws_in(path.read_text(encoding="utf-8"))]
         if found:
-            lines += [f"### `{crate}`", "", *(f"- `{crate}::{name}`: {sentence}" for name, sentence in found), ""]
-    return "\n".join(lines)
+            yield crate, found
+
+
+def wrong_laws(laws):
+    """The laws without a sentence, and those whose name or sentence another one has."""
+    seen = set()
+    for crate, found in laws:
+        for name, sentence in found:
+            if not sentence:
+                yield f"{crate}::{name}: no sentence stands above it"
+            for it in (f"{crate}::{name}", sentence):
+                if it and it in seen:
+                    yield f"{crate}::{name}: another law has this: {it}"
+                seen.add(it)
 
 
 def main():
@@ -98,19 +113,25 @@ def main():
     for line in (TOP / "crates.txt").read_text(encoding="utf-8").splitlines():
         if not line.startswith("#"):
             crates[line.split(":")[0]] = functions(line.split(":")[0])
+    if sys.argv[1:2] == ["--list"]:
+        signal.signal(signal.SIGPIPE, signal.SIG_DFL)
+        for crate, found in laws_of(sys.argv[2:] or crates):
+            print(f"{crate}", *(f"  {name}: {sentence}" for name, sentence in found), sep="\n")
+        return True
+    laws = list(laws_of(crates))
+    count = f"There are {sum(len(found) for _, found in laws)} laws in {len(laws)} crates"
     path = TOP / "docs/proved.md"
     page = path.read_text(encoding="utf-8")
-    start, end = page.index(FIRST) + len(FIRST), page.index(LAST)
     if sys.argv[1:] == ["--write"]:
-        page = page[:start] + listed_laws(crates) + page[end:]
+        page = COUNT.sub(count, page)
         path.write_text(page, encoding="utf-8")
-        end = page.index(LAST)
-    wrong, names = named_functions((TOP / "docs/architecture.md").read_text(encoding="utf-8"), crates)
-    well = report("docs/architecture.md names functions that have a contract", wrong or ([] if names else ["no function is named"]))
-    wrong, names = named_functions(page, crates)
-    well &= report("docs/proved.md names functions that have a contract", wrong or ([] if names else ["no function is named"]))
-    unlike = set(listed_laws(crates).splitlines()) ^ set(page[start:end].splitlines())
-    well &= report("docs/proved.md lists the laws as the source has them (tests/proved.py --write)", sorted(unlike))
+    well = True
+    for name in ("architecture", "proved", "walk"):
+        wrong, names = named_functions((TOP / f"docs/{name}.md").read_text(encoding="utf-8"), crates)
+        well &= report(f"docs/{name}.md names functions that have a contract", wrong or ([] if names else ["no function is named"]))
+    well &= report("each law has a sentence of its own", list(wrong_laws(laws)))
+    said = [it[0] for it in COUNT.finditer(page)]
+    well &= report("docs/proved.md says how many laws there are (tests/proved.py --write)", [] if said == [count] else [f"{said} is not {count}"])
     quoted = re.findall(r"^```text (\S+)\n(.*?)^```$", page, re.M | re.S)
     well &= report("docs/proved.md quotes the current source", [
         f"{path} does not contain this text:\n{text}" for path, text in quoted

@@ -1,5 +1,6 @@
 #!/usr/bin/env bash
-# What docs/proved.md and docs/architecture.md name and quote is in the source: functions with their contracts, each law, clauses.
+# What docs/proved.md, docs/architecture.md and docs/walk.md name and quote is in the source: functions with their contracts, clauses, the number of
+# laws; and each law has a sentence of its own.
 set -uo pipefail
 # shellcheck source=lib.sh
 . "$(dirname "$0")/lib.sh"

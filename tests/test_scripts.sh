@@ -11,7 +11,7 @@ else
     skipped "shellcheck" "there is no shellcheck"
 fi
 if has pyflakes3; then
-    goes_well "pyflakes" pyflakes3 tools/*.py tests/*.py tests/tables/*.py tests/tables/kinds/*.py bench/*.py bench/pages/*.py
+    goes_well "pyflakes" pyflakes3 tools/*.py tests/*.py tests/tables/*.py tests/tables/kinds/*.py bench/*.py
 else
     skipped "pyflakes" "there is no pyflakes3"
 fi

@@ -1,12 +1,12 @@
 #!/usr/bin/env bash
-# Everything that the documents show is typed, and prints what they show.
+# Everything that the documents show is typed, and prints what they show; and so are the sessions of tests/profiles.md.
 set -uo pipefail
 # shellcheck source=lib.sh
 . "$(dirname "$0")/lib.sh"
 cd "$top" || exit 1
 if has python3; then
     # (each session has its own line)
-    told_by python3 tests/typed.py "$program" README.md docs/*.md
+    told_by python3 tests/typed.py "$program" README.md docs/*.md tests/profiles.md
 else
     skipped "tests/typed.py" "there is no python3"
 fi

@@ -8,7 +8,7 @@ given) while there is memory; the one with the most to prove above it comes firs
 work in a crate's folder and in those below it. So each command works in a copy of the sources of its own, build/proofs/N, and
 takes what the others proved from where the toolchain keeps it, beside the kit; if that can't be written, one command at a time
 works. Sources may be changed meanwhile: what is proved is what stood there at the start. build/proofs.log has all that was
-printed.
+printed, and bench/modules.py makes a table of it.
 """
 import os
 import pathlib
@@ -94,6 +94,16 @@ def has_room():
     return True
 
 
+def ran(words, folder):
+    """What a command printed, its status, and the processor seconds of it and of all that it waited for."""
+    how = {"stdin": subprocess.DEVNULL, "stdout": subprocess.PIPE, "stderr": subprocess.STDOUT, "errors": "replace"}
+    with subprocess.Popen(words, cwd=folder, **how) as process:
+        printed = process.stdout.read()
+        _, status, used = os.wait4(process.pid, 0)
+        process.returncode = os.waitstatus_to_exitcode(status)
+    return printed, process.returncode, used.ru_utime + used.ru_stime
+
+
 class Proofs:
     """What is proved, what is being proved and since when, and what failed."""
 
@@ -126,20 +136,19 @@ class Proofs:
         # (a crate that has nothing beside it may have all processors)
         alone = len(self.running) == 1 and self.next() is None
         words = [RT, *(["run"] if is_program else ["lib"]), *([] if alone else ["--jobs", "1"]), *(["--", "--version"] if is_program else [])]
-        how = {"stdin": subprocess.DEVNULL, "stdout": subprocess.PIPE, "stderr": subprocess.STDOUT, "errors": "replace"}
-        ran = subprocess.run(words, cwd=at / "crates" / name, check=False, **how)
-        if is_program and ran.returncode == 0:
+        printed, code, spent = ran(words, at / "crates" / name)
+        if is_program and code == 0:
             made = PROGRAMS[name].with_suffix(".new")
             shutil.copy2(at / "crates" / name / "out" / name, made)
             os.replace(made, PROGRAMS[name])
         with self.turn:
             seconds = time.monotonic() - self.running.pop(name)
             self.copies.append(at)
-            self.log.write(f"== {name}\n{ran.stdout}")
+            self.log.write(f"== {name}, {spent:.1f} seconds of processor time\n{printed}")
             self.log.flush()
-            if ran.returncode:
+            if code:
                 self.failed.append(name)
-                say(f"{ran.stdout[-6000:]}\n{name}: not proved, for what rt says above (build/proofs.log has all of it)")
+                say(f"{printed[-6000:]}\n{name}: not proved, for what rt says above (build/proofs.log has all of it)")
             else:
                 self.proved.append(name)
                 say(f"{len(self.proved)} of {len(self.crates)}: {name}, in {seconds:.0f} seconds; {len(self.crates) - len(self.proved)} left")

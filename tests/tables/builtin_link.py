@@ -66,7 +66,9 @@ MACHINES = [
     ("PermanentMACAddress", ["permaddr=02:00:00:00:00:01"], {"02:00:00:00:00:01": True, "12:34:56:78:90:ab": False}),
     ("KernelCommandLine", ["cmdline.part=quiet a=1"], {"quiet": True, "a": True, "a=1": True, "!quiet": False, "a=2": "cmdline", "!a=2": "cmdline", "x": "cmdline"}),
     ("KernelCommandLine", ["arch=x86-64"], {"quiet": "cmdline", "!quiet": "cmdline"}),
-    ("KernelVersion", ["kernel=6.18"], {"6.*": True, '"6.*': False, ">6": "KernelVersion"}),
+    ("KernelVersion", ["kernel=6.18"], {"6.*": True, '"6.*': False, '!"6.*': False, '!5 "6': True, ">6": True, "!>": False, "!> 7": True,
+                                        '> "5"': "KernelVersion", '"" 6.*': "KernelVersion", ">6 <": False, "!>6 <": False, "!>7 <": True,
+                                        ">= 6.18~rc1 <6.18.1": True}),
     ("KernelVersion", ["arch=x86-64"], {"6.*": "KernelVersion", "!6.*": "KernelVersion"}),
 ]
 NAMED = ["ID_NET_LINK_FILE=/etc/systemd/network/10-a.link", "ID_NET_LINK_FILE_DROPINS=", "ID_NET_NAME=abc0"]

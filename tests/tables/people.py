@@ -12,6 +12,7 @@ NONE = {"old/etc/udev/rules.d/a.rules": "", "new/etc/udev/rules.d/a.rules": ""}
 BARE = "C: add\nP: /d\n"
 ANSWER = "event add /d\nenv ACTION=add\nenv DEVPATH=/d\n\n"
 TAGGED = 'TAG+="t"\n'
+NO_BLOCK = "devdry: no event block in the input\n"
 GOOD, BAD = "1 files checked, 1 good, 0 bad\n", "1 files checked, 0 good, 1 bad\n"
 
 # a block for each fault, and its line
@@ -28,6 +29,9 @@ FAULTS = {
     "too deep": ("C: add\n" + "".join(f"P: {'/d' * count}\n" for count in range(65, 0, -1)), 66),
 }
 
+# inputs without a block
+NOTHING = {"nothing": "", "an empty line": "\n", "empty lines": "\n" * 5_000}
+
 ON_BLOCKS = [
     *(Row(f"events, {text}", EVENTS, {}, block, messages=f"block 1, line {line}: {text}\n" + BLOCKS[text], status=1)
       for text, (block, line) in FAULTS.items()),
@@ -43,6 +47,15 @@ ON_BLOCKS = [
     Row("with --questions", f"{EVENTS} --questions", {}, BARE + "\nC: add\n", "event add /d\n\n",
         "block 2, line 1: no device\n" + BLOCKS["no device"], 1),
     Row("with --unused", f"{EVENTS} --unused a.rules", {"a.rules": TAGGED}, "C: add\n", "", "block 1, line 1: no device\n" + BLOCKS["no device"], 1),
+    *(Row(f"events, {what} as input", EVENTS, {}, text, messages=NO_BLOCK) for what, text in NOTHING.items()),
+    *(Row(f"compare, {what} as input", "compare --format=human old new", NONE, text, messages=NO_BLOCK) for what, text in NOTHING.items()),
+    *(Row(f"{command}, no block, and the format is for others", command, NONE) for command in
+      ("events -r none", "events --format=plain -r none", "events --format=json -r none", "compare old new", "compare --format=json old new")),
+    Row("events --all, no block", "events --all -r old", NONE, "\n", messages=NO_BLOCK),
+    Row("compare --all, no block", "compare --all old new", NONE, "\n", messages=NO_BLOCK),
+    Row("compare --rules, no block", "compare --rules old.rules new.rules", {"old.rules": "", "new.rules": ""}, messages=NO_BLOCK),
+    Row("no block, after messages", f"{EVENTS} a.rules", {"a.rules": "FOO\n"}, messages="a.rules:1: V1 bad syntax: FOO\n" + NO_BLOCK),
+    Row("no block, and the rules that none met", f"{EVENTS} --unused a.rules", {"a.rules": TAGGED}, "", "unused a.rules:1: not reached\n", NO_BLOCK),
     Row("a difference before a faulty block", "compare --format=human old new", {**NONE, "new/etc/udev/rules.d/a.rules": TAGGED},
         BARE + "\nC: add\n", "event add /d\n+tag t\n\n", "block 2, line 1: no device\n" + BLOCKS["no device"], 1),
 ]

@@ -247,7 +247,7 @@ def noted(number, *keys):
     return [f"note r.rules:{number}: no device number: {key}" for key in keys]
 
 
-# What a rule has to have so that udev does not skip it is in docs/udev/EVENTS.md.
+# What a rule has to have so that udev does not skip it is in docs/behaviour.md (As udev itself does).
 SKIPPED = [
     why(
         "rules that udev skips at a device without a number",

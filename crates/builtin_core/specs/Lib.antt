@@ -1,1 +1,4 @@
+pub mod Kinds
+pub mod Paths
+pub mod Needs
 pub mod Builtins

@@ -2,7 +2,7 @@
 ghost use Rattle.std.specs.Prelude.{◌≡◌};
 ghost use Rattle.builtin_core.specs.Builtins.{known_by};
 
-use builtin_chains::{input_needs, net_needs, path_needs, usb_needs};
+use crate::needs::{input_needs, net_needs, path_needs, usb_needs};
 use builtin_devices::{BuiltinOutcome, NetNames};
 use builtin_input::input_id;
 use builtin_knowledge::{Knowledge, RootFile, RootFiles};

@@ -1,2 +1,3 @@
 pub mod NewNames
 pub mod Needs
+pub mod Ranks

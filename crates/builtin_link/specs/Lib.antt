@@ -6,3 +6,5 @@ pub mod Machines
 pub mod Checks
 pub mod Policies
 pub mod Link
+pub mod Versions
+pub mod Laws

@@ -1,18 +1,20 @@
 -- The conditions of a .link file on the machine, by what a block tells of it.
 use Rattle.std.specs.Prelude.{Bool, true, false, not, ◌&&◌, ◌||◌, if◌then◌else◌, List, [], ◌∷◌, Option, Some, None, option_map, codes}
-use Rattle.std.specs.List.{list_all, list_any}
-use Rattle.std.specs.Option.{option_map_or}
-use Rattle.text_bytes.specs.Texts.{begins_with, following, unindented}
+use Rattle.std.specs.Bool.{beq}
+use Rattle.std.specs.List.{list_any}
+use Rattle.std.specs.Option.{option_eq, option_map_or}
+use Rattle.text_bytes.specs.Texts.{first, following, is_empty, unindented}
 use Rattle.text_bytes.specs.Text.{Text}
 use Rattle.text_tables.specs.Texts.{is_among, same_text}
 use Rattle.text_tables.specs.Pairs.{value_of}
 use Rattle.link_files.specs.Booleans.{is_no, is_yes}
-use Rattle.link_files.specs.Words.{is_whole, words_of}
+use Rattle.link_files.specs.Words.{words_of}
 use Rattle.link_files.specs.declared.words.WordKind.TheVariants.{Property}
 use Rattle.device_core.specs.Values.{EventValue}
 use Rattle.builtin_devices.specs.Files.{file_at}
 use Rattle.eval_commands.specs.Cmdline.{has_word}
-use Rattle.builtin_link.specs.Globs.{fits_glob}
+use Rattle.eval_commands.specs.Words.{is_quote}
+use Rattle.builtin_link.specs.Versions.{asked, is_as_value_asks}
 use Rattle.builtin_link.specs.declared.checks.Need.{Need}
 use Rattle.builtin_link.specs.declared.checks.Need.TheVariants.{Architecture, KernelCommandLine, KernelVersion, Virtualization}
 
@@ -61,33 +63,31 @@ abbrev pub command_line_holds : EventValue → Text → Option Bool
 command_line_holds event word =
     held_in (option_map (has_word word) (file_at event (codes "cmdline"))) (option_map_or (has_word word) (file_at event (codes "cmdline.part")) false)
 
--- whether a word about a version begins with an operator, so that it asks for more than a pattern
-abbrev pub has_operator : Text → Bool
-has_operator word = list_any (λ sign. begins_with sign word) (codes "<>=!$")
+-- whether a value begins with an operator alone, whose text udev takes with its quotes, and there are some
+abbrev pub is_unclear : Text → Bool
+is_unclear value = option_map_or (λ word. is_empty (asked word).text && list_any is_quote value) (first (words_of Property value)) false
 
--- whether a version fits each of the words of a value, which leaves no quote open
-abbrev pub fits_words : (value version : Text) → Bool
-fits_words value version = is_whole Property value && list_all (λ word. fits_glob word version) (words_of Property value)
-
--- whether the value of KernelVersion is true of the kernel, if the event tells it; the order of versions is not told
-abbrev pub version_holds : EventValue → Text → Option Bool
-version_holds event value =
-    if list_any has_operator (words_of Property value) then None
-    else option_map (fits_words value) (value_of event.constants (codes "kernel"))
+-- whether the value of KernelVersion, which may be negated, is true of the kernel, if the event tells it; what can't be understood is
+-- true of none
+abbrev pub version_holds : EventValue → (is_negated : Bool) → Text → Option Bool
+version_holds event is_negated value =
+    if is_unclear value then None
+    else option_map (λ version. option_eq beq (is_as_value_asks version value) (Some (not is_negated))) (value_of event.constants (codes "kernel"))
 
 -- whether a condition holds of the machine, by what would tell it and its value, if the event tells it
 abbrev pub condition_holds : EventValue → Need → Text → Option Bool
 condition_holds event Architecture value = option_map (λ arch. is_built_for arch value) (value_of event.constants (codes "arch"))
 condition_holds event Virtualization value = virtualization_holds event value
 condition_holds event KernelCommandLine value = command_line_holds event value
-condition_holds event KernelVersion value = version_holds event value
+condition_holds event KernelVersion value = version_holds event false value
 condition_holds event need value = None
 
--- the same for a value that may be negated by a `!` in front, by what follows that
-abbrev pub negated_holds : EventValue → Need → (value : Text) → Option Text → Option Bool
-negated_holds event need value None = condition_holds event need value
-negated_holds event need value (Some rest) = option_map not (condition_holds event need (unindented rest))
+-- the same for a value with a `!` in front, by what follows that
+abbrev pub negated_holds : EventValue → Need → Text → Option Bool
+negated_holds event KernelVersion value = version_holds event true value
+negated_holds event need value = option_map not (condition_holds event need value)
 
 -- whether a condition holds, as it is written
 unfoldable pub written_holds : EventValue → Need → Text → Option Bool
-written_holds event need value = negated_holds event need value (following (codes "!") value)
+written_holds event need value =
+    option_map_or (λ rest. negated_holds event need (unindented rest)) (following (codes "!") value) (condition_holds event need value)

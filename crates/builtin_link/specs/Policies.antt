@@ -2,7 +2,7 @@
 use Rattle.std.specs.Prelude.{ℕ, ◌&&◌, ◌||◌, not, Bool, false, List, [], ◌∷◌, codes, fold}
 use Rattle.std.specs.Prelude.{Option, Some, None, option_and_then, if◌then◌else◌}
 use Rattle.std.specs.Option.{option_map_or, option_or}
-use Rattle.text_bytes.specs.Texts.{following, is_empty}
+use Rattle.text_bytes.specs.Texts.{is_empty}
 use Rattle.text_bytes.specs.Text.{Text}
 use Rattle.text_tables.specs.Texts.{same_text}
 use Rattle.text_tables.specs.Pairs.{Pair, value_of}
@@ -10,12 +10,13 @@ use Rattle.device_core.specs.Values.{EventValue}
 use Rattle.builtin_devices.specs.Files.{file_at}
 use Rattle.builtin_devices.specs.Numbers.{is_number}
 use Rattle.builtin_link.specs.Numbers.{own_number}
+use Rattle.eval_commands.specs.Cmdline.{cmdline_value}
 use Rattle.link_files.specs.Booleans.{is_no}
 use Rattle.link_files.specs.Lists.{is_of, last_of, link_section}
 use Rattle.link_files.specs.Names.{is_interface_name}
 use Rattle.link_files.specs.Words.{words_of}
 use Rattle.link_files.specs.declared.settings.Setting.{Setting}
-use Rattle.link_files.specs.declared.words.WordKind.TheVariants.{Plain, Glob}
+use Rattle.link_files.specs.declared.words.WordKind.TheVariants.{Plain}
 
 -- where the name that an interface has comes from, as the kernel counts it: 2 for one that it can predict, 3 and 4 for
 -- one that a program gave it as it was made or later
@@ -70,22 +71,14 @@ given_name settings = fold with_name None settings
 unfoldable pub policies_of : List Setting → List Text
 policies_of settings = words_of Plain (last_of link_section (codes "NamePolicy") settings)
 
--- the value of a word `net.ifnames=VALUE` of the kernel's command line, or of those before it
-abbrev pub with_switch : Option Text → (word : Text) → Option Text
-with_switch held word = option_or (following (codes "net.ifnames=") word) held
-
--- the value that counts: the last one
-abbrev pub last_switch : List Text → Option Text
-last_switch words = fold with_switch None words
-
 -- the kernel's command line, or the words of it that the block gives
 abbrev pub command_line : EventValue → Option Text
 command_line event = option_or (file_at event (codes "cmdline")) (file_at event (codes "cmdline.part"))
 
--- whether policies count: the kernel's command line, if the block gives it, may say that they don't
+-- whether policies count: the kernel's command line, if the block gives it, may give `net.ifnames` a word for no
 unfoldable pub policies_count : EventValue → Bool
 policies_count event =
-    not (option_map_or (λ line. option_map_or is_no (last_switch (words_of Glob line)) false) (command_line event) false)
+    not (option_map_or is_no (option_and_then (cmdline_value (codes "net.ifnames")) (command_line event)) false)
 
 -- the name that an interface has
 abbrev pub present_name : List Pair → Option Text

@@ -11,6 +11,7 @@ mod link;
 mod machines;
 mod numbers;
 mod policies;
+mod versions;
 
 pub use laws::{
     negated_words_deny, new_names_may_be_names, only_new_interfaces_are_named,

@@ -1,25 +1,21 @@
 //! The conditions of a `.link` file on the machine, by what a block tells of it.
 ghost use Rattle.std.specs.Prelude.{◌≡◌, IfOk, codes, option_map};
-ghost use Rattle.std.specs.List.{list_all, list_any};
-ghost use Rattle.std.specs.Option.{option_map_or};
-ghost use Rattle.text_bytes.specs.Texts.{following};
-ghost use Rattle.link_files.specs.Words.{words_of};
-ghost use Rattle.link_files.specs.declared.words.WordKind.TheVariants.{Property};
+ghost use Rattle.std.specs.List.{list_any};
 ghost use Rattle.eval_commands.specs.Cmdline.{has_word};
-ghost use Rattle.builtin_link.specs.Globs.{fits_glob};
+ghost use Rattle.eval_commands.specs.Words.{is_quote};
 ghost use Rattle.text_tables.specs.Texts.{is_among};
 ghost use Rattle.text_tables.specs.Pairs.{value_of};
-ghost use Rattle.builtin_link.specs.Machines.{command_line_holds, condition_holds, containers, fits_words, has_operator, held_in, is_built_for};
+ghost use Rattle.builtin_link.specs.Machines.{command_line_holds, condition_holds, containers, is_built_for, is_unclear, negated_holds};
 ghost use Rattle.builtin_link.specs.Machines.{is_kind_of, is_virtual, is_virtualized, version_holds, virtualization_holds, written_holds};
 
 use crate::checks::Need;
-use crate::globs::fits_glob;
+use crate::versions::{asked, is_as_value_asks};
 use builtin_devices::file_at;
 use device_core::Event;
-use eval_commands::has_word;
-use link_files::{WordKind, is_no, is_whole, is_yes, words_of};
+use eval_commands::{has_word, is_quote};
+use link_files::{WordKind, is_no, is_yes, words_of};
 use std::alloc::{AllocError, Global};
-use text_bytes::{Bytes, begins_with, following, unindented};
+use text_bytes::{following, unindented};
 use text_tables::is_among;
 
 /// The names of virtualization that are those of containers.
@@ -123,47 +119,43 @@ fn command_line_holds(
     }
 }
 
-/// Whether a word about a version begins with an operator.
-fn has_operator(word: &[u8]) -> bool
-    ensures { result ≡ has_operator word.now }
+/// Whether a text has a quote.
+fn has_quote(text: &[u8]) -> bool
+    ensures { result ≡ list_any is_quote text.now }
 {
-    b"<>=!$".iter().any(|sign| begins_with(*sign, word))
+    text.iter().any(|byte| is_quote(*byte))
 }
 
-/// Whether one of these words does.
-fn have_operator(words: &[Bytes]) -> bool
-    ensures { result ≡ list_any has_operator words.now }
-{
-    words.iter().any(|word| has_operator(word.as_slice()))
-}
-
-/// Whether a version fits each of these patterns.
-fn fits_each(alloc: Global, words: &[Bytes], version: &[u8]) -> Result<bool, AllocError>
-    ensures { IfOk result (λ fits. fits ≡ list_all (λ word. fits_glob word version.now) words.now) }
-{
-    for word in words {
-        if !fits_glob(alloc, word.as_slice(), version)? {
-            return Ok(false);
-        }
-    }
-    Ok(true)
-}
-
-/// Whether the value of KernelVersion is true of the kernel, if the block tells it.
-fn version_holds(alloc: Global, event: &Event<'_>, value: &[u8]) -> Result<Option<bool>, AllocError>
-    ensures { IfOk result (λ holds. holds ≡ version_holds event.now value.now) }
+/// Whether a value begins with an operator alone, whose text udev takes with its quotes, and there are some.
+fn is_unclear(alloc: Global, value: &[u8]) -> Result<bool, AllocError>
+    ensures { IfOk result (λ unclear. unclear ≡ is_unclear value.now) }
 {
     let words = words_of(alloc, WordKind::Property, value)?;
-    if have_operator(&words) {
+    let Some((word, _)) = words.split_first() else {
+        return Ok(false);
+    };
+    Ok(asked(word.as_slice()).text.is_empty() && has_quote(value))
+}
+
+/// Whether the value of KernelVersion, which may be negated, is true of the kernel, if the block tells it.
+fn version_holds(
+    alloc: Global,
+    event: &Event<'_>,
+    is_negated: bool,
+    value: &[u8],
+) -> Result<Option<bool>, AllocError>
+    ensures { IfOk result (λ holds. holds ≡ version_holds event.now is_negated value.now) }
+{
+    if is_unclear(alloc, value)? {
         return Ok(None);
     }
     let Some(version) = event.constants().get(b"kernel") else {
         return Ok(None);
     };
-    if !is_whole(alloc, WordKind::Property, value)? {
-        return Ok(Some(false));
+    match is_as_value_asks(alloc, version, value)? {
+        None => Ok(Some(false)),
+        Some(holds) => Ok(Some(holds != is_negated)),
     }
-    Ok(Some(fits_each(alloc, &words, version)?))
 }
 
 /// Whether Architecture holds, if the block tells it.
@@ -186,8 +178,23 @@ fn condition_holds(
         Need::Architecture => Ok(architecture_holds(event, value)),
         Need::Virtualization => Ok(virtualization_holds(event, value)),
         Need::KernelCommandLine => command_line_holds(alloc, event, value),
-        Need::KernelVersion => version_holds(alloc, event, value),
+        Need::KernelVersion => version_holds(alloc, event, false, value),
         _ => Ok(None),
+    }
+}
+
+/// The same for a value with a `!` in front, by what follows that.
+fn negated_holds(
+    alloc: Global,
+    event: &Event<'_>,
+    need: Need,
+    value: &[u8],
+) -> Result<Option<bool>, AllocError>
+    ensures { IfOk result (λ holds. holds ≡ negated_holds event.now need value.now) }
+{
+    match need {
+        Need::KernelVersion => version_holds(alloc, event, true, value),
+        _ => Ok(condition_holds(alloc, event, need, value)?.map(|holds| !holds)),
     }
 }
 
@@ -202,9 +209,7 @@ pub(crate) fn written_holds(
     ensures { IfOk result (λ holds. holds ≡ written_holds event.now need value.now) }
 {
     match following(b"!", value) {
-        Some(rest) => Ok(condition_holds(alloc, event, need, unindented(rest))?.map(
-            |holds| !holds,
-        )),
+        Some(rest) => negated_holds(alloc, event, need, unindented(rest)),
         None => condition_holds(alloc, event, need, value),
     }
 }

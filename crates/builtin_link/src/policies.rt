@@ -1,18 +1,18 @@
 //! The name of an interface.
-ghost use Rattle.std.specs.Prelude.{◌≡◌, false, IfOk, option_map};
+ghost use Rattle.std.specs.Prelude.{◌≡◌, false, IfOk, codes, option_map};
 ghost use Rattle.std.specs.Option.{option_map_or};
 ghost use Rattle.link_files.specs.Booleans.{is_no};
-ghost use Rattle.link_files.specs.Words.{words_of};
-ghost use Rattle.link_files.specs.declared.words.WordKind.TheVariants.{Glob};
-ghost use Rattle.builtin_link.specs.Policies.{given_name, keeps_name, last_switch, name_by, name_by_policies, name_left, name_of, name_source, new_name};
-ghost use Rattle.builtin_link.specs.Policies.{policies_count, policies_of, present_name, property_of, with_name, with_switch};
+ghost use Rattle.eval_commands.specs.Cmdline.{cmdline_value};
+ghost use Rattle.builtin_link.specs.Policies.{given_name, keeps_name, name_by, name_by_policies, name_left, name_of, name_source, new_name};
+ghost use Rattle.builtin_link.specs.Policies.{policies_count, policies_of, present_name, property_of, with_name};
 
 use crate::numbers::own_number;
 use builtin_devices::{file_at, is_number};
 use device_core::Event;
+use eval_commands::cmdline_value;
 use link_files::{LINK, Setting, WordKind, is_interface_name, is_no, is_of, last_of, words_of};
 use std::alloc::{AllocError, Global};
-use text_bytes::{Bytes, following};
+use text_bytes::Bytes;
 use text_tables::CowPairs;
 
 /// Where the name that an interface has comes from, as the kernel counts it.
@@ -130,34 +130,12 @@ fn policies_of(alloc: Global, settings: &[Setting]) -> Result<Vec<Bytes>, AllocE
     )
 }
 
-/// The value of a word `net.ifnames=VALUE`, or of those before it.
-fn with_switch<'w>(held: Option<&'w [u8]>, word: &'w [u8]) -> Option<&'w [u8]>
-    ensures { option_map (λ t. t.now) result ≡ with_switch (option_map (λ t. t.now) held.entry) word.now }
-{
-    match following(b"net.ifnames=", word) {
-        Some(value) => Some(value),
-        None => held,
-    }
-}
-
-/// The value of the last word `net.ifnames=VALUE`.
-fn last_switch(words: &[Bytes]) -> Option<&[u8]>
-    ensures { option_map (λ t. t.now) result ≡ last_switch words.now }
-{
-    let mut held = None;
-    for word in words {
-        held = with_switch(held, word.as_slice());
-    }
-    held
-}
-
 /// Whether the kernel's command line leaves policies without effect.
 fn is_switched_off(alloc: Global, line: &[u8]) -> Result<bool, AllocError>
-    ensures { IfOk result (λ off. off ≡ option_map_or is_no (last_switch (words_of Glob line.now)) false) }
+    ensures { IfOk result (λ off. off ≡ option_map_or is_no (cmdline_value (codes "net.ifnames") line.now) false) }
 {
-    let words = words_of(alloc, WordKind::Glob, line)?;
-    match last_switch(&words) {
-        Some(value) => Ok(is_no(value)),
+    match cmdline_value(alloc, b"net.ifnames", line)? {
+        Some(value) => Ok(is_no(value.as_slice())),
         None => Ok(false),
     }
 }

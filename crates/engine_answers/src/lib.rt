@@ -10,7 +10,9 @@ mod front;
 mod items;
 mod lines;
 mod tables;
+mod whole_sources;
 
 pub use answers::{answer, answer_lines, sourced_lines};
 pub use lines::is_hidden;
 pub use tables::Tables;
+pub use whole_sources::evaluate_whole_sources;

@@ -5,18 +5,38 @@ use Rattle.std.proofs.lemmas.List.Elements.{All-cons, All-filter, All-map, All-n
 use Rattle.text_bytes.specs.declared.source_file.SourceFile.{SourceFile}
 use Rattle.text_tables.specs.Texts.{is_among}
 use Rattle.hwdb_core.specs.Sources.{messages_of}
+use Rattle.hwdb_lints.specs.Lints.{database_lints}
+use Rattle.rule_file_lints.specs.FileLints.{placed_lints}
 use Rattle.engine_ends.specs.declared.line.Line.{Line}
 use Rattle.engine_formats.specs.Diagnostics.{DiagnosticValue}
 use Rattle.engine_formats.specs.Remarks.{code_of}
 use Rattle.engine_formats.specs.declared.remark.Remark.{Remark}
 use Rattle.engine_formats.specs.declared.remark.Remark.TheVariants.{Message, Lint, DatabaseLint, LinkFault, IdleIgnore, UnknownCode}
 use Rattle.engine_checks.specs.Codes.{has_comments, is_found}
-use Rattle.engine_checks.specs.Files.{asked_by, database_diagnostic, database_found, database_lint_diagnostic, database_lints_counted, database_reported, file_text, findings_of, ignored_by, ignores_counted, lint_diagnostic, lints_counted, rule_diagnostic, rules_found, rules_reported}
+use Rattle.engine_checks.specs.Files.{asked_by, database_diagnostic, database_found, database_found_with, database_lint_diagnostic, database_lints_counted, database_reported, file_text, findings_of, found_with, ignored_by, ignores_counted, lint_diagnostic, lints_counted, rule_diagnostic, rules_found, rules_reported}
 use Rattle.engine_checks.specs.Ignores.{Ignore, ignores_in}
 use Rattle.engine_checks.specs.Laws.{found_among, messages_in, remarks_among}
-use Rattle.engine_checks.specs.Reported.{Asked, FileText, comment_diagnostic, comment_diagnostics, file_reported, is_about_style, is_asked, is_lint, is_reported, is_unknown, silences}
-use Rattle.engine_checks.proofs.AsBefore.{database_alone, messages_alone, none_among}
+use Rattle.engine_checks.specs.Reported.{Asked, FileText, comment_diagnostic, comment_diagnostics, file_reported, is_about_style, is_asked, is_lint, is_reported, is_unknown, merged, silences}
+use Rattle.engine_checks.proofs.ByLines.{alone}
 use Rattle.engine_checks.proofs.Merged.{both_hold, filter_all, filter_alike, filter_swap, first_left, others_left}
+
+pub none_among : (ds : List DiagnosticValue) → merged ds [] ≡ ds
+none_among ds = alone (λ (d : DiagnosticValue). d.begins) ds
+
+-- if no lints are looked for, what is found is the messages
+messages_alone : (line : Line) (file : SourceFile) → line.lint ≡ false → has_comments (ignored_by line) ≡ false → rules_found line file ≡ messages_in line file
+messages_alone line file unasked counts =
+    ap (λ b. found_with (file_text line file) (findings_of line file) (cond (b || has_comments (ignored_by line)) (placed_lints line.profile file) [])) unasked
+    ∙ ap (λ b. found_with (file_text line file) (findings_of line file) (cond b (placed_lints line.profile file) [])) counts
+    ∙ none_among (messages_in line file)
+
+-- the same of a file of a database
+database_alone : (line : Line) (file : SourceFile) → line.lint ≡ false → has_comments (ignored_by line) ≡ false
+    → database_found line file ≡ map (database_diagnostic (file_text line file)) (messages_of (file ∷ []))
+database_alone line file unasked counts =
+    ap (λ b. database_found_with (file_text line file) (messages_of (file ∷ [])) (cond (b || has_comments (ignored_by line)) (database_lints file.bytes) [])) unasked
+    ∙ ap (λ b. database_found_with (file_text line file) (messages_of (file ∷ [])) (cond b (database_lints file.bytes) [])) counts
+    ∙ none_among (map (database_diagnostic (file_text line file)) (messages_of (file ∷ [])))
 
 -- what is said of comments is not about what is found
 said_of_comments : (file : FileText) (found : List DiagnosticValue) (ignores : List Ignore) → All (λ d. is_found d.remark ≡ false) (comment_diagnostics file found ignores)

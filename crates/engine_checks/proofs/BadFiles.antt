@@ -59,13 +59,14 @@ all_named asked line f =
     (All-map (IsNamed f.name) (lint_diagnostic file) (lints_counted asked f) (λ k d h. refl))))
     (All-filter (λ d. is_asked asked d.remark) (IsNamed f.name) (comment_diagnostics file found ignores) (comments_named file found ignores))
 
+-- whether a name is among none besides
+pub or_none : (b : Bool) → (b || false) ≡ b
+or_none true = refl
+or_none false = refl
+
 -- under one name
 one_name : (name other : Text) (d : DiagnosticValue) (ds : List DiagnosticValue) → All (IsNamed name) (d ∷ ds) → is_among (map (λ x. x.name) (d ∷ ds)) other ≡ same_text other name
-one_name name other d [] h = ap (λ (n : Text). same_text other n || false) (All-head (IsNamed name) d [] h) ∙ or_false (same_text other name)
-  where
-    or_false : (b : Bool) → (b || false) ≡ b
-    or_false true = refl
-    or_false false = refl
+one_name name other d [] h = ap (λ (n : Text). same_text other n || false) (All-head (IsNamed name) d [] h) ∙ or_none (same_text other name)
 one_name name other d (e ∷ ds) h =
     ap (λ (n : Text). same_text other n || is_among (map (λ x. x.name) (e ∷ ds)) other) (All-head (IsNamed name) d (e ∷ ds) h)
     ∙ ap (λ (b : Bool). same_text other name || b) (one_name name other e ds (All-tail (IsNamed name) d (e ∷ ds) h))
@@ -104,6 +105,16 @@ bad_file asked line f other h = named_some f.name other (reported_by asked line 
 
 pub good_file : (asked : Asked) (line : Line) (f : SourceFile) (other : Text) → length (flat_map plain_line (reported_by asked line f)) ≡ 0 → is_among (map (λ d. d.name) (reported_by asked line f)) other ≡ false
 good_file asked line f other h = named_none other (reported_by asked line f) h
+
+-- one more name
+or_assoc : (a b c : Bool) → (a || (b || c)) ≡ ((a || b) || c)
+or_assoc true b c = refl
+or_assoc false b c = refl
+
+pub among_pushed : {X : Type 0} (now : X → List ℕ) (xs : List X) (y : X) (name : List ℕ) → is_among (map now (xs ++ y ∷ [])) name ≡ (is_among (map now xs) name || same_text name (now y))
+among_pushed now [] y name = or_none (same_text name (now y))
+among_pushed now (x ∷ xs) y name =
+    ap (λ (b : Bool). same_text name (now x) || b) (among_pushed now xs y name) ∙ or_assoc (same_text name (now x)) (is_among (map now xs) name) (same_text name (now y))
 
 -- one more file
 pub text_next : (asked : Asked) (line : Line) (files : List SourceFile) (f : SourceFile) → flat_map plain_line (flat_map (reported_by asked line) (files ++ f ∷ [])) ≡ flat_map plain_line (flat_map (reported_by asked line) files) ++ flat_map plain_line (reported_by asked line f)

@@ -7,16 +7,15 @@ pub mod Held
 pub mod Silencing
 pub mod Reporting
 pub mod Checking
-pub mod AsBefore
 pub mod EachCode
 pub mod LeftOut
 pub mod Merged
 pub mod Among
 pub mod LintsReported
-pub mod UpdatesBefore
 pub mod Bare
 pub mod Placement
 pub mod Following
 pub mod InTurn
 pub mod Telling
 pub mod BadFiles
+pub mod Updating

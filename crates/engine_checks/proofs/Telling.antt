@@ -1,5 +1,5 @@
 -- What is told of a rules file line by line is the plain lines of what is reported for it.
-use Rattle.std.proofs.Common.{◌≡◌, ℕ, ◌+◌, ◌<◌, ◌≤◌, Bool, true, false, not, ◌&&◌, ◌||◌, cond, nat_lt, List, [], ◌∷◌, ◌++◌, filter, length, map, sum_by, drop, Option, Some, None, unwrap_or, refl, ap, ap₂, subst, sym, ◌∙◌, append-nil, append_assoc, arith}
+use Rattle.std.proofs.Common.{◌≡◌, ℕ, ◌+◌, ◌<◌, ◌≤◌, Bool, true, false, true≢false, not, ◌&&◌, ◌||◌, cond, nat_lt, List, [], ◌∷◌, ◌++◌, filter, length, map, sum_by, Option, Some, None, refl, ap, ap₂, subst, sym, ◌∙◌, append-nil, append_assoc, arith}
 use Rattle.std.specs.Prelude.{⊤}
 use Rattle.std.specs.List.{flat_map, zip}
 use Rattle.std.proofs.lemmas.Bool.{and_parts, ltb-true}
@@ -7,7 +7,6 @@ use Rattle.std.proofs.lemmas.Grind.{flat_map-append}
 use Rattle.std.proofs.lemmas.List.{map-append}
 use Rattle.std.proofs.lemmas.List.Sums.{sum_by-cons}
 use Rattle.text_bytes.specs.Text.{Text}
-use Rattle.text_bytes.specs.Texts.{first}
 use Rattle.text_bytes.specs.declared.profile.Profile.{Profile}
 use Rattle.text_bytes.specs.declared.profile.Profile.TheVariants.{Manual, Udev}
 use Rattle.text_bytes.specs.declared.source_file.SourceFile.{SourceFile}
@@ -19,6 +18,7 @@ use Rattle.rule_core.specs.Counts.{token_count}
 use Rattle.rule_core.specs.Ends.{abandoned}
 use Rattle.rule_core.specs.Laws.{RisesFrom}
 use Rattle.rule_core.specs.Lines.{Joined, NumberedLine, joined_lines}
+use Rattle.rule_core.specs.Notes.{AreSilent}
 use Rattle.rule_core.specs.Rules.{Reading, file_rules, landed, line_findings, names_of, reading_of}
 use Rattle.rule_lints.specs.declared.lint.Lint.{Lint}
 use Rattle.rule_types.specs.Rules.{tokens_in}
@@ -39,12 +39,12 @@ use Rattle.engine_formats.specs.Diagnostics.{DiagnosticValue}
 use Rattle.engine_formats.specs.Lines.{plain_line}
 use Rattle.engine_formats.specs.declared.remark.Remark.TheVariants as about
 use Rattle.engine_checks.specs.Codes.{has_comments}
-use Rattle.engine_checks.specs.Files.{file_text, found_with, ignores_counted, lint_diagnostic, rule_diagnostic}
+use Rattle.engine_checks.specs.Files.{file_text, ignores_counted, lint_diagnostic, rule_diagnostic}
 use Rattle.engine_checks.specs.Ignores.{Ignore, ignores_in}
-use Rattle.engine_checks.specs.LinesFound.{read_findings, read_found, read_lints, read_remarks}
-use Rattle.engine_checks.specs.Reported.{Asked, FileText, file_reported, is_asked, is_reported, is_silenced, merged}
+use Rattle.engine_checks.specs.LinesFound.{read_found, read_lints, read_remarks}
+use Rattle.engine_checks.specs.Reported.{Asked, FileText, file_reported, is_asked, is_reported, merged}
 use Rattle.engine_checks.specs.Tables.{FileRead, read_by, rules_found_by, rules_reported_by}
-use Rattle.engine_checks.specs.Told.{above_told, are_rising, bare, is_open_after, joined_told, line_said, line_told, lines_said, lints_at, lints_said, messages_said, names_told, open_said, remarks_at, reported_by, told}
+use Rattle.engine_checks.specs.Told.{above_told, are_rising, bare, is_open_after, joined_told, line_said, line_told, lines_said, lines_told, lints_at, lints_said, messages_said, names_told, open_said, reads_silent, remarks_at, reported_by, told}
 use Rattle.engine_checks.proofs.ByLines.{alone, made_by_line}
 use Rattle.engine_checks.proofs.InTurn.{AreOn, line_in_turn, on_both, rises_after}
 use Rattle.engine_checks.proofs.ReadOnce.{found_once, tokens_once}
@@ -170,7 +170,7 @@ told_stripped asked [] = refl
 told_stripped asked (d ∷ ds) = ap₂ (λ (a b : List ℕ). a ++ b) (ap (λ (t : List ℕ). cond (is_asked asked d.remark) t []) (same_line d)) (told_stripped asked ds)
 
 -- what is told is the lines of what is asked for
-told_kept : (asked : Asked) (ds : Said) → told asked ds ≡ flat_map plain_line (filter (λ d. is_asked asked d.remark) ds)
+pub told_kept : (asked : Asked) (ds : Said) → told asked ds ≡ flat_map plain_line (filter (λ d. is_asked asked d.remark) ds)
 told_kept asked [] = refl
 told_kept asked (d ∷ ds) = by (is_asked asked d.remark) (told_kept asked ds)
   where
@@ -291,7 +291,7 @@ all_asked asked (d ∷ ds) =
     ap (λ (b : Bool). cond b (d ∷ filter (is_reported asked []) ds) (filter (is_reported asked []) ds)) (and_true (is_asked asked d.remark))
     ∙ ap (λ (es : Said). cond (is_asked asked d.remark) (d ∷ es) es) (all_asked asked ds)
 
-bare_reported : (asked : Asked) (file : FileText) (ignores : List Ignore) (ds : Said) → ignores ≡ [] → file_reported asked file ignores ds ≡ filter (λ d. is_asked asked d.remark) ds
+pub bare_reported : (asked : Asked) (file : FileText) (ignores : List Ignore) (ds : Said) → ignores ≡ [] → file_reported asked file ignores ds ≡ filter (λ d. is_asked asked d.remark) ds
 unfolding file_reported
 bare_reported asked file ignores ds e =
     ap (λ (is : List Ignore). file_reported asked file is ds) e
@@ -328,33 +328,61 @@ read_told asked line f bytes name joined before now b n j c o r e =
 pub read_counted : (by : Profile) (f : SourceFile) (bytes : List ℕ) (joined : Joined) (count : ℕ) → bytes ≡ f.bytes → joined ≡ joined_lines by bytes → abandoned by f.bytes ≡ None → count ≡ token_count (landed (map (reading_of by) joined.lines)) → count ≡ tokens_in (file_rules by f)
 read_counted by f bytes joined count b j o e = e ∙ sym (tokens_once by f f.bytes joined refl (j ∙ ap (joined_lines by) b) o)
 
--- one more line is told
-pub line_more : (asked : Asked) (name : Text) (names : Option FileNames) (above next : RulesAbove) (rest others : Lines) (x : Reading × Landing) (lints : List (Spot Lint)) (before now whole : List ℕ)
-    → first rest ≡ Some x → others ≡ drop 1 rest → lints ≡ lints_at asked.profile names above x → next ≡ above_told names above x → now ≡ before ++ told asked (line_said asked name lints x)
-    → before ++ told asked (lines_said asked name names above rest) ≡ whole → now ++ told asked (lines_said asked name names next others) ≡ whole
-line_more asked name names above next [] others x lints before now whole f o l n t w = cc
-line_more asked name names above next (y ∷ rest) others x lints before now whole f o l n t w =
-    let same : y ≡ x = ap (λ (m : Option (Reading × Landing)). unwrap_or m x) f in
-    let here : List ℕ = told asked (line_said asked name (lints_at asked.profile names above x) x) in
-    ap (λ (s : List ℕ). s ++ told asked (lines_said asked name names next others)) (t ∙ ap (λ (ls : List (Spot Lint)). before ++ told asked (line_said asked name ls x)) l)
-    ∙ ap₂ (λ (a : RulesAbove) (ls : Lines). (before ++ here) ++ told asked (lines_said asked name names a ls)) n o
-    ∙ append_assoc before here (told asked (lines_said asked name names (above_told names above x) rest))
-    ∙ ap (λ (s : List ℕ). before ++ s) (sym (flat_map-append (line_told asked) (line_said asked name (lints_at asked.profile names above x) x) (lines_said asked name names (above_told names above x) rest)))
-    ∙ ap (λ (z : Reading × Landing). before ++ told asked (lines_said asked name names above (z ∷ rest))) (sym same)
-    ∙ w
+-- nothing is said of a silent line where these are not read
+nothing_said : (by : Profile) (accounts : Accounts) (name : Text) (names : Option FileNames) (a : RulesAbove) (x : Reading × Landing) → reads_silent by names ≡ false → line_findings x.0.read x.1 ≡ []
+    → messages_said name x.0.line (line_findings x.0.read x.1) ++ (messages_said name x.0.line (remarks_at by accounts x.0.read) ++ lints_said name x.0.line (lints_at by names a x)) ≡ []
+nothing_said Manual accounts name None a x r f = ap (λ (spots : List (Spot MessageKind)). messages_said name x.0.line spots ++ []) f
+nothing_said Manual accounts name (Some n) a x r f = absurd (true≢false r)
+nothing_said Udev accounts name names a x r f = absurd (true≢false r)
 
-pub lines_end : (asked : Asked) (name : Text) (names : Option FileNames) (above : RulesAbove) (rest : Lines) (now whole : List ℕ) → first rest ≡ None → now ++ told asked (lines_said asked name names above rest) ≡ whole → now ≡ whole
-lines_end asked name names above [] now whole f w = sym (append-nil now) ∙ w
-lines_end asked name names above (x ∷ rest) now whole f w = cc
+above_stays : (by : Profile) (names : Option FileNames) (a : RulesAbove) (x : Reading × Landing) → reads_silent by names ≡ false → a ≡ above_told names a x
+above_stays Manual None a x r = refl
+above_stays Manual (Some n) a x r = absurd (true≢false r)
+above_stays Udev names a x r = absurd (true≢false r)
+
+-- nothing is missed of lines of which silent ones are passed over
+all_told : (asked : Asked) (name : Text) (names : Option FileNames) (a : RulesAbove) (silent : List Bool) (lines : Lines) → AreSilent silent lines → lines_told asked name names a silent lines ≡ told asked (lines_said asked name names a lines)
+all_told asked name names a [] [] h = refl
+all_told asked name names a [] (x ∷ lines) h = absurd h
+all_told asked name names a (s ∷ silent) [] h = absurd h
+all_told asked name names a (s ∷ silent) (x ∷ lines) h = by (all_told asked name names (above_told names a x) silent lines h.1) s (reads_silent asked.profile names) refl h.0
+  where
+    said : Said
+    said = line_said asked name (lints_at asked.profile names a x) x
+
+    rest : RulesAbove → List ℕ
+    rest b = lines_told asked name names b silent lines
+
+    parts : told asked (lines_said asked name names a (x ∷ lines)) ≡ told asked said ++ told asked (lines_said asked name names (above_told names a x) lines)
+    parts = flat_map-append (line_told asked) said (lines_said asked name names (above_told names a x) lines)
+
+    read : rest (above_told names a x) ≡ told asked (lines_said asked name names (above_told names a x) lines) → told asked said ++ rest (above_told names a x) ≡ told asked (lines_said asked name names a (x ∷ lines))
+    read later = ap (λ (ns : List ℕ). told asked said ++ ns) later ∙ sym parts
+
+    passed : rest (above_told names a x) ≡ told asked (lines_said asked name names (above_told names a x) lines) → reads_silent asked.profile names ≡ false → line_findings x.0.read x.1 ≡ [] → rest a ≡ told asked (lines_said asked name names a (x ∷ lines))
+    passed later r f =
+        ap rest (above_stays asked.profile names a x r)
+        ∙ later
+        ∙ ap (λ (ds : Said). told asked ds ++ told asked (lines_said asked name names (above_told names a x) lines)) (sym (nothing_said asked.profile asked.accounts name names a x r f))
+        ∙ sym parts
+
+    by : rest (above_told names a x) ≡ told asked (lines_said asked name names (above_told names a x) lines) → (s b : Bool) → reads_silent asked.profile names ≡ b → (s ≡ true → line_findings x.0.read x.1 ≡ [])
+        → cond (s && not b) [] (told asked said) ++ rest (cond (s && not b) a (above_told names a x)) ≡ told asked (lines_said asked name names a (x ∷ lines))
+    by later true false r f = passed later r (f refl)
+    by later true true r f = read later
+    by later false b r f = read later
 
 -- what is told of joined lines: of each that is read, and of the open one
-pub joined_parts : (asked : Asked) (name : Text) (joined : Joined) (lines : Lines) (found : List Landing) (names : Option FileNames) (before middle now : List ℕ)
+pub joined_parts : (asked : Asked) (name : Text) (joined : Joined) (lines : Lines) (found : List Landing) (names : Option FileNames) (silent flags : List Bool) (by : Profile) (read : List NumberedLine) (before middle now : List ℕ)
     → lines ≡ zip (map (reading_of asked.profile) joined.lines) found → found ≡ landings (map (λ r. names_of r.read) (map (reading_of asked.profile) joined.lines)) → names ≡ names_told asked name lines
-    → middle ≡ before ++ told asked (lines_said asked name names nothing_above lines) → now ≡ middle ++ told asked (open_said name joined.open_at) → now ≡ before ++ joined_told asked name joined
-joined_parts asked name joined lines found names before middle now l g n m e =
+    → AreSilent flags (landed (map (reading_of by) read)) → silent ≡ flags → by ≡ asked.profile → read ≡ joined.lines
+    → middle ≡ before ++ lines_told asked name names nothing_above silent lines → now ≡ middle ++ told asked (open_said name joined.open_at) → now ≡ before ++ joined_told asked name joined
+joined_parts asked name joined lines found names silent flags by read before middle now l g n s f p r m e =
     let all : lines ≡ landed (map (reading_of asked.profile) joined.lines) = l ∙ ap (zip (map (reading_of asked.profile) joined.lines)) g in
+    let same : landed (map (reading_of by) read) ≡ lines = ap₂ (λ (b : Profile) (ls : List NumberedLine). landed (map (reading_of b) ls)) p r ∙ sym all in
+    let quiet : AreSilent silent lines = subst (λ (ls : Lines). AreSilent silent ls) same (subst (λ (bs : List Bool). AreSilent bs (landed (map (reading_of by) read))) (sym f) s) in
     e
-    ∙ ap (λ (t : List ℕ). t ++ told asked (open_said name joined.open_at)) m
+    ∙ ap (λ (t : List ℕ). t ++ told asked (open_said name joined.open_at)) (m ∙ ap (λ (t : List ℕ). before ++ t) (all_told asked name names nothing_above silent lines quiet))
     ∙ append_assoc before (told asked (lines_said asked name names nothing_above lines)) (told asked (open_said name joined.open_at))
     ∙ ap (λ (ns : Option FileNames). before ++ (told asked (lines_said asked name ns nothing_above lines) ++ told asked (open_said name joined.open_at))) n
     ∙ ap (λ (ls : Lines). before ++ (told asked (lines_said asked name (names_told asked name ls) nothing_above ls) ++ told asked (open_said name joined.open_at))) all

@@ -1,5 +1,5 @@
--- What `verify` and `update` say with other formats, with lints, and with messages that are ignored.
-use Rattle.std.specs.Prelude.{ℕ, if◌then◌else◌, List, [], length, flat_map, map}
+-- What `verify` and `update` say.
+use Rattle.std.specs.Prelude.{ℕ, Bool, not, ◌==◌, ◌&&◌, if◌then◌else◌, List, [], length, flat_map, map}
 use Rattle.text_bytes.specs.declared.source_file.SourceFile.{SourceFile}
 use Rattle.text_bytes.specs.declared.source_file.FileKind.TheVariants.{Hwdb, Rules}
 use Rattle.file_messages.specs.declared.message.Message.{Message}
@@ -13,7 +13,7 @@ use Rattle.engine_ends.specs.declared.line.Format.{Format}
 use Rattle.engine_ends.specs.declared.line.Line.{Line}
 use Rattle.engine_reports.specs.Checks.{files_said}
 use Rattle.engine_reports.specs.FilesRead.{files_read}
-use Rattle.engine_reports.specs.Outcomes.{database_outcome, hold_few_tokens, too_many_rules, update_status}
+use Rattle.engine_reports.specs.Outcomes.{database_outcome, hold_few_tokens, too_many_rules}
 use Rattle.engine_formats.specs.Diagnostics.{DiagnosticValue}
 use Rattle.engine_formats.specs.Formats.{formatted, is_report}
 use Rattle.engine_checks.specs.Files.{database_reported, rules_reported}
@@ -38,8 +38,12 @@ rules_checks line files =
     else too_many_rules
 
 -- what `verify` says about the files passed in, whose ends of lines are read as the profile has them
-abbrev pub checks_outcome : Line → List SourceFile → RunOutcome
-checks_outcome line files = rules_checks line (map (file_as_read line.profile) (files_read Rules line files))
+abbrev pub verify_outcome : Line → List SourceFile → RunOutcome
+verify_outcome line files = rules_checks line (map (file_as_read line.profile) (files_read Rules line files))
+
+-- the status of `update`: 1 if it is strict and something is reported
+abbrev pub update_status : Bool → ℕ → ℕ
+update_status strict count = if strict && not (count == 0) then 1 else 0
 
 -- what `update` says about the entries of the database and the text of so many diagnostics: the entries as an index,
 -- unless the text is a report for programs
@@ -57,5 +61,5 @@ unfoldable pub database_checks : Line → List SourceFile → RunOutcome
 database_checks line files = database_outcome (entries_said line (flat_map (database_reported line) files)) files
 
 -- what `update` says about the files passed in
-abbrev pub reported_update_outcome : Line → List SourceFile → RunOutcome
-reported_update_outcome line files = database_checks line (files_read Hwdb line files)
+abbrev pub update_outcome : Line → List SourceFile → RunOutcome
+update_outcome line files = database_checks line (files_read Hwdb line files)

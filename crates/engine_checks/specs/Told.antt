@@ -1,9 +1,11 @@
--- Serves inner proofs only: what is told of rules files in plain lines, line by line.
-use Rattle.std.specs.Prelude.{ℕ, Bool, true, ◌&&◌, nat_lt, if◌then◌else◌, List, [], ◌∷◌, ◌++◌, flat_map, map, Option, Some, None, Result}
+-- Serves inner proofs only: what is told of files in plain lines, of rules line by line.
+use Rattle.std.specs.Prelude.{ℕ, ◌^◌, Bool, true, false, not, ◌&&◌, nat_lt, if◌then◌else◌, List, [], ◌∷◌, ◌++◌, drop, flat_map, length, map, Option, Some, None, Result, is_some}
+use Rattle.std.specs.List.{list_all}
 use Rattle.text_bytes.specs.Text.{Text}
 use Rattle.text_bytes.specs.declared.profile.Profile.{Profile}
 use Rattle.text_bytes.specs.declared.profile.Profile.TheVariants.{Manual, Udev}
 use Rattle.text_bytes.specs.declared.source_file.SourceFile.{SourceFile}
+use Rattle.file_messages.specs.declared.message.Message.{Message}
 use Rattle.file_messages.specs.declared.message.MessageKind.{MessageKind}
 use Rattle.file_messages.specs.declared.message.MessageKind.TheVariants.{OpenAtEnd}
 use Rattle.rule_jumps.specs.declared.jumps.Landing.{Landing}
@@ -16,11 +18,14 @@ use Rattle.rule_file_lints.specs.FileLints.{FileNames, RulesAbove}
 use Rattle.rule_file_lints.specs.Steps.{above_after, names_in, nothing_above, spots_at}
 use Rattle.rule_pairs.specs.Accounts.{Accounts}
 use Rattle.rule_remarks.specs.Rules.{line_remarks}
+use Rattle.engine_ends.specs.declared.line.Format.{Format}
+use Rattle.engine_ends.specs.declared.line.Format.TheVariants.{Plain}
 use Rattle.engine_ends.specs.declared.line.Line.{Line}
 use Rattle.engine_formats.specs.Diagnostics.{DiagnosticValue}
 use Rattle.engine_formats.specs.Lines.{plain_line}
 use Rattle.engine_formats.specs.declared.remark.Remark.{Remark}
 use Rattle.engine_formats.specs.declared.remark.Remark.TheVariants as about
+use Rattle.engine_checks.specs.Codes.{has_comments}
 use Rattle.engine_checks.specs.Reported.{Asked, is_asked}
 use Rattle.engine_checks.specs.Tables.{read_by, rules_reported_by}
 
@@ -74,6 +79,39 @@ line_said asked name lints x =
     ++ (messages_said name x.0.line (remarks_at asked.profile asked.accounts x.0.read)
     ++ lints_said name x.0.line lints)
 
+-- whether something may be said of a line about which nothing is found: lints, or what udev reports
+abbrev pub reads_silent : Profile → Option FileNames → Bool
+reads_silent Manual names = is_some names
+reads_silent Udev names = true
+
+-- what is said of the first of some lines
+abbrev pub first_said : Asked → Text → Option FileNames → RulesAbove → List (Reading × Landing) → List DiagnosticValue
+first_said asked name names a [] = []
+first_said asked name names a (x ∷ lines) = line_said asked name (lints_at asked.profile names a x) x
+
+-- what the rules above leave, after the first of some lines
+abbrev pub first_above : Option FileNames → RulesAbove → List (Reading × Landing) → RulesAbove
+first_above names a [] = a
+first_above names a (x ∷ lines) = above_told names a x
+
+-- whether the first of some lines is passed over: it is silent, and so nothing is said of it
+abbrev pub is_passed : Asked → Option FileNames → (is_silent : Bool) → Bool
+is_passed asked names is_silent = is_silent && not (reads_silent asked.profile names)
+
+-- what is told of the first of some lines, unless it is passed over
+abbrev pub next_told : Asked → Text → Option FileNames → RulesAbove → (is_silent : Bool) → List (Reading × Landing) → Text
+next_told asked name names a s lines = if is_passed asked names s then [] else told asked (first_said asked name names a lines)
+
+-- what the rules above leave, after the first of some lines, unless it is passed over
+abbrev pub next_above : Asked → Option FileNames → RulesAbove → (is_silent : Bool) → List (Reading × Landing) → RulesAbove
+next_above asked names a s lines = if is_passed asked names s then a else first_above names a lines
+
+-- what is told of lines, of which some are passed over
+abbrev pub lines_told : Asked → Text → Option FileNames → RulesAbove → List Bool → List (Reading × Landing) → Text
+lines_told asked name names a [] lines = []
+lines_told asked name names a (s ∷ silent) lines =
+    next_told asked name names a s lines ++ lines_told asked name names (next_above asked names a s lines) silent (drop 1 lines)
+
 -- what is said of lines, below rules that leave something
 abbrev pub lines_said : Asked → Text → Option FileNames → RulesAbove → List (Reading × Landing) → List DiagnosticValue
 lines_said asked name names a [] = []
@@ -89,6 +127,19 @@ abbrev pub joined_told : Asked → Text → Joined → Text
 joined_told asked name joined =
     let lines = landed (map (reading_of asked.profile) joined.lines) in
     told asked (lines_said asked name (names_told asked name lines) nothing_above lines) ++ told asked (open_said name joined.open_at)
+
+-- a message about a database as a plain line shows it
+abbrev pub database_said : Message → DiagnosticValue
+database_said m = bare m.file m.line (about.Message m.kind) m.word
+
+-- whether each of these files has fewer than 2^32 bytes, so that each of its lines has its number
+abbrev pub are_short : List SourceFile → Bool
+are_short files = list_all (λ f. nat_lt (length f.bytes) (2 ^ 32)) files
+
+-- whether what is reported for files of a database is their messages: in plain lines, without lints, and where no comment counts
+abbrev pub tells_messages : Asked → Format → List SourceFile → Bool
+tells_messages asked Plain files = (not asked.lint && not (has_comments asked.ignored)) && are_short files
+tells_messages asked format files = false
 
 -- whether the number of an open line is greater than one
 abbrev pub is_open_after : ℕ → Option ℕ → Bool

@@ -1,8 +1,8 @@
-//! What `verify` says with other formats, with lints, and with messages that are ignored.
+//! What `verify` says.
 ghost use Rattle.std.specs.Prelude.{◌≡◌, ◌<◌, map, IfOk, IfErr};
 ghost use Rattle.engine_formats.specs.Diagnostics.{shown};
 ghost use Rattle.engine_reports.specs.Reports.{IsSaid, said};
-ghost use Rattle.engine_checks.specs.Outcomes.{checks_outcome, checks_said, rules_checks};
+ghost use Rattle.engine_checks.specs.Outcomes.{checks_said, rules_checks, verify_outcome};
 ghost use Rattle.engine_checks.specs.Tables.{AsksLike};
 ghost use Rattle.engine_ends.specs.declared.line.Format.TheVariants.{Plain};
 
@@ -19,20 +19,20 @@ use rule_core::{MAX_TOKENS, files_as_read};
 use std::alloc::{AllocError, Global};
 use text_bytes::{FileKind, SourceFile};
 
-/// What `verify` says about the files passed in, by the line's profile, with its format, with lints if the line
+/// What `verify` says about the files passed in, by the line's profile, in its format, with lints if the line
 /// asks for them, and without the messages and lints that it ignores: what is reported, and how many of the files
 /// are bad.
 ///
 /// A text of the line that is not a code silences nothing. `TooManyRules` comes exactly if the rules have more than
 /// 2^24 tokens, `Memory` if memory runs out.
-pub fn report_on_checks(
+pub fn report_on_verify(
     alloc: Global,
     line: &Line<'_>,
     files: Vec<SourceFile>,
 ) -> Result<Report, Refusal>
-    ensures said { IfOk result (λ r. said r ≡ checks_outcome line.now files.items) }
+    ensures said { IfOk result (λ r. said r ≡ verify_outcome line.now files.items) }
     ensures status { IfOk result (λ r. r.status < 3) }
-    ensures refused { IfErr result (λ e. IsSaid e (checks_outcome line.now files.items)) }
+    ensures refused { IfErr result (λ e. IsSaid e (verify_outcome line.now files.items)) }
 {
     let files = files_read(alloc, FileKind::Rules, line, files)?;
     let files = files_as_read(alloc, line.profile, files)?;

@@ -1,9 +1,9 @@
-//! The checks of files with options: other formats of messages, lints, and ignored messages.
+//! The checks of files: what `verify` and `update` report, and in which format.
 //!
 //! With `--lint`, the messages about each rule are followed by its lints. `--ignore` names codes, and messages and
 //! lints with these codes are neither printed nor counted. If the word `comments` is among them, comments in the files
 //! can name codes too. The report is assembled as diagnostics, file by file, and written in the format that was
-//! asked for.
+//! asked for. Plain lines are written as they are found.
 #![tactic(auto)]
 
 mod asked;
@@ -36,16 +36,15 @@ mod silenced;
 mod single;
 mod starts;
 mod told;
+mod told_lines;
 mod updates;
 
-pub use checks::report_on_checks;
+pub use checks::report_on_verify;
 pub use comment_laws::{
     codes_are_in_their_comments, comments_are_about_what_follows, comments_silence_or_are_reported,
     found_is_reported_or_silenced,
 };
-pub use laws::{
-    ignored_codes_alone_are_left_out, plain_checks_are_as_before, plain_updates_are_as_before,
-};
+pub use laws::ignored_codes_alone_are_left_out;
 pub use link_checks::{report_on_links, serve_links};
 pub use lint_laws::{
     comments_count_for_lints, lints_are_reported_where_asked,
@@ -56,4 +55,4 @@ pub use reported::Asked;
 pub use single::{
     a_file_by_itself_is_reported_alike, diagnostics_of_database, diagnostics_of_rules,
 };
-pub use updates::report_on_reported_update;
+pub use updates::report_on_update;

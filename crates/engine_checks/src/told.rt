@@ -1,39 +1,30 @@
-//! What is told of rules files in plain lines, written as each of their lines is read.
+//! What is told of rules files in plain lines.
 //!
-//! Nothing of a line is held when the next one is read but what lints need to know of it, so that a file takes memory by
-//! its bytes and not by what is found in it. Two kinds of files are read whole: those in which comments count, since what
-//! they silence is known in the end, and those that are given up.
-ghost use Rattle.std.specs.Prelude.{◌≡◌, ◌+◌, ◌++◌, ◌||◌, [], ◌∷◌, None, false, flat_map, map, sum_by, IfOk, OnOk};
+//! A file's lines are told as each of them is read, so that it takes memory by its bytes and not by what is found in it. Two
+//! kinds of files are read whole: those in which comments count, since what they silence is known in the end, and those
+//! that are given up.
+ghost use Rattle.std.specs.Prelude.{◌≡◌, ◌+◌, ◌++◌, ◌||◌, None, false, flat_map, map, sum_by, IfOk, OnOk};
 ghost use Rattle.text_bytes.specs.Text.{Text};
 ghost use Rattle.text_tables.specs.Texts.{is_among};
-ghost use Rattle.rule_core.specs.Counts.{token_count};
 ghost use Rattle.rule_core.specs.Ends.{abandoned};
-ghost use Rattle.rule_core.specs.Rules.{file_rules, landed, reading_of};
+ghost use Rattle.rule_core.specs.Rules.{file_rules};
 ghost use Rattle.rule_types.specs.Rules.{tokens_in};
-ghost use Rattle.rule_file_lints.specs.Steps.{nothing_above};
 ghost use Rattle.engine_formats.specs.Lines.{plain_line};
 ghost use Rattle.engine_checks.specs.Codes.{has_comments};
-ghost use Rattle.engine_checks.specs.Told.{above_told, are_rising, bare, is_open_after, line_said, line_told, lines_said, lints_at, lints_said, messages_said};
-ghost use Rattle.engine_checks.specs.Told.{joined_told, names_told, open_said, remarks_at, reported_by, told};
+ghost use Rattle.engine_checks.specs.Told.{are_rising, is_open_after, reported_by};
 
 use crate::asked::has_comments;
 use crate::counted::Counted;
 use crate::reads::read_files;
-use crate::reported::{Asked, is_asked};
+use crate::reported::Asked;
 use crate::rules_reported::rules_reported;
-use engine_ends::{Format, Line, push_place, push_word};
-use engine_formats::{Remark, formatted};
-use file_messages::MessageKind;
-use rule_core::{
-    Draft, JoinedLine, JoinedLines, LandedLines, LandedReading, Spot, abandoned_at, joined_lines,
-    line_findings, note_lines, sum_of,
-};
-use rule_file_lints::{FileNames, RulesAbove, lints_of_line};
-use rule_lints::Lint;
-use rule_remarks::line_remarks;
+use crate::told_lines::tell_joined;
+use engine_ends::{Format, Line};
+use engine_formats::formatted;
+use rule_core::{JoinedLine, abandoned_at, joined_lines, sum_of};
 use std::alloc::{AllocError, Global};
 use std::slice::from_ref;
-use text_bytes::{Profile, SourceFile, word_of};
+use text_bytes::SourceFile;
 
 /// What is told of rules files.
 #[derive(Drop)]
@@ -178,210 +169,4 @@ fn tell_whole(
     let mut lines = formatted(alloc, Format::Plain, &diagnostics)?;
     text.append(&mut lines)?;
     Ok(tokens)
-}
-
-/// Adds what is told of the joined lines of a file with a name, and counts the tokens that are left in their rules.
-#[tactic(auto, using(crate::proofs::Telling::joined_parts))]
-fn tell_joined(
-    alloc: Global,
-    asked: &Asked<'_>,
-    text: &mut Vec<u8>,
-    name: &[u8],
-    joined: &JoinedLines<'_>,
-) -> Result<usize, AllocError>
-    ensures text { OnOk result (text.new.items ≡ text.old.items ++ joined_told asked.now name.now joined.now) }
-    ensures tokens { IfOk result (λ count. count ≡ token_count (landed (map (reading_of asked.now.profile) joined.now.lines))) }
-{
-    let notes = note_lines(alloc, asked.profile, joined.lines())?;
-    let lines = LandedLines::new(asked.profile, joined.lines(), &notes.landings);
-    let names = names_told(alloc, asked, name, lines.copied())?;
-    tell_lines(alloc, asked, text, name, &names, lines)?;
-    tell_open(alloc, asked, text, name, joined.open_at())?;
-    Ok(notes.tokens)
-}
-
-/// What lints need to know of all lines of a file with a name, if they are asked for.
-fn names_told(
-    alloc: Global,
-    asked: &Asked<'_>,
-    name: &[u8],
-    lines: LandedLines<'_>,
-) -> Result<Option<FileNames>, AllocError>
-    ensures { IfOk result (λ names. names ≡ names_told asked.now name.now lines.entry) }
-{
-    if asked.lint {
-        Ok(Some(FileNames::of_lines(alloc, name, lines)?))
-    } else {
-        Ok(None)
-    }
-}
-
-/// Adds what is told of lines, each of which is read here.
-#[tactic(auto, using(crate::proofs::Telling::line_more, crate::proofs::Telling::lines_end))]
-fn tell_lines(
-    alloc: Global,
-    asked: &Asked<'_>,
-    text: &mut Vec<u8>,
-    name: &[u8],
-    names: &Option<FileNames>,
-    lines: LandedLines<'_>,
-) -> Result<(), AllocError>
-    ensures { OnOk result (text.new.items ≡ text.old.items ++ told asked.now (lines_said asked.now name.now names.now nothing_above lines.entry)) }
-{
-    let mut above = RulesAbove::new(alloc);
-    let mut rest = lines;
-    while let Some(line) = rest.first(alloc)? {
-        let lints = next_lints(alloc, asked.profile, names, &mut above, &line)?;
-        tell_line(alloc, asked, text, name, &lints, line)?;
-        rest = rest.others();
-    }
-    Ok(())
-}
-
-/// The lints of a line, which is then above the next one, if lints are asked for.
-fn next_lints(
-    alloc: Global,
-    profile: Profile,
-    names: &Option<FileNames>,
-    above: &mut RulesAbove,
-    line: &LandedReading<'_>,
-) -> Result<Vec<Spot<Lint>>, AllocError>
-    ensures lints { IfOk result (λ spots. spots.items ≡ lints_at profile names.now above.old line.now) }
-    ensures above { OnOk result (above.new ≡ above_told names.now above.old line.now) }
-{
-    match names {
-        None => Ok(Vec::new(alloc)),
-        Some(names) => {
-            let lints = lints_of_line(alloc, profile, names, above, line)?;
-            above.take(alloc, line)?;
-            Ok(lints)
-        }
-    }
-}
-
-/// Adds what is told of a line with these lints.
-#[tactic(auto, using(crate::proofs::Telling::all_of_line))]
-fn tell_line(
-    alloc: Global,
-    asked: &Asked<'_>,
-    text: &mut Vec<u8>,
-    name: &[u8],
-    lints: &[Spot<Lint>],
-    line: LandedReading<'_>,
-) -> Result<(), AllocError>
-    ensures { OnOk result (text.new.items ≡ text.old.items ++ told asked.now (line_said asked.now name.now lints.now line.entry)) }
-{
-    let number = line.reading.line;
-    let remarks = remarks_at(alloc, asked, &line.reading.read)?;
-    let findings = line_findings(alloc, line)?;
-    tell_messages(alloc, asked, text, name, number, &findings)?;
-    tell_messages(alloc, asked, text, name, number, &remarks)?;
-    tell_lints(alloc, asked, text, name, number, lints)
-}
-
-/// What udev reports about a line; by the manual nothing is.
-fn remarks_at(
-    alloc: Global,
-    asked: &Asked<'_>,
-    read: &Result<Draft<'_>, Spot<MessageKind>>,
-) -> Result<Vec<Spot<MessageKind>>, AllocError>
-    ensures { IfOk result (λ remarks. remarks.items ≡ remarks_at asked.now.profile asked.now.accounts read.now) }
-{
-    match asked.profile {
-        Profile::Manual => Ok(Vec::new(alloc)),
-        Profile::Udev => line_remarks(alloc, &asked.accounts, read),
-    }
-}
-
-/// Adds what is told of messages about a line.
-fn tell_messages(
-    alloc: Global,
-    asked: &Asked<'_>,
-    text: &mut Vec<u8>,
-    name: &[u8],
-    number: u32,
-    spots: &[Spot<MessageKind>],
-) -> Result<(), AllocError>
-    ensures { OnOk result (text.new.items ≡ text.old.items ++ told asked.now (messages_said name.now number spots.now)) }
-{
-    for spot in spots {
-        let remark = Remark::Message(spot.kind);
-        tell(
-            alloc,
-            asked,
-            text,
-            name,
-            number,
-            remark,
-            spot.word.as_slice(),
-        )?;
-    }
-    Ok(())
-}
-
-/// Adds what is told of lints of a line.
-fn tell_lints(
-    alloc: Global,
-    asked: &Asked<'_>,
-    text: &mut Vec<u8>,
-    name: &[u8],
-    number: u32,
-    spots: &[Spot<Lint>],
-) -> Result<(), AllocError>
-    ensures { OnOk result (text.new.items ≡ text.old.items ++ told asked.now (lints_said name.now number spots.now)) }
-{
-    for spot in spots {
-        let remark = Remark::Lint(spot.kind);
-        tell(
-            alloc,
-            asked,
-            text,
-            name,
-            number,
-            remark,
-            spot.word.as_slice(),
-        )?;
-    }
-    Ok(())
-}
-
-/// Adds what is told of a line that is open at the end of its file, if there is one.
-fn tell_open(
-    alloc: Global,
-    asked: &Asked<'_>,
-    text: &mut Vec<u8>,
-    name: &[u8],
-    open_at: Option<u32>,
-) -> Result<(), AllocError>
-    ensures { OnOk result (text.new.items ≡ text.old.items ++ told asked.now (open_said name.now open_at)) }
-{
-    match open_at {
-        None => Ok(()),
-        Some(number) => {
-            let remark = Remark::Message(MessageKind::OpenAtEnd);
-            tell(alloc, asked, text, name, number, remark, &[])
-        }
-    }
-}
-
-/// Adds the plain line of a remark on a line with a word, if it is asked for.
-#[tactic(auto, unfolding(engine_formats::specs::Lines::plain_line))]
-fn tell(
-    alloc: Global,
-    asked: &Asked<'_>,
-    text: &mut Vec<u8>,
-    name: &[u8],
-    number: u32,
-    remark: Remark,
-    word: &[u8],
-) -> Result<(), AllocError>
-    ensures { OnOk result (text.new.items ≡ text.old.items ++ told asked.now (bare name.now number remark word.now ∷ [])) }
-{
-    if is_asked(asked, remark) {
-        push_place(alloc, text, name, number)?;
-        text.extend_from_slice(remark.heading())?;
-        push_word(alloc, text, word_of(word))?;
-        text.push(b'\n')?;
-    }
-    Ok(())
 }

@@ -2,7 +2,6 @@
 use Rattle.std.proofs.Common.{◌≡◌, ℕ, Bool, List, inl, inr, refl, subst, Result, Ok, Err}
 use Rattle.text_bytes.specs.Text.{Text}
 use Rattle.engine_ends.specs.Streams.{Streams, outputs}
-use Rattle.engine_ends.specs.Readers.{is_for_people}
 use Rattle.engine_ends.specs.declared.line.Line.{Line}
 use Rattle.engine_ends.specs.Delivery.{RunOutcome, Delivers, ReportsFailure, ReportsFaults, out_of_memory}
 use Rattle.engine_formats.specs.Masked.{shown_in}
@@ -18,16 +17,18 @@ use Rattle.builtin_core.specs.Builtins.{Held, known_by}
 use Rattle.builtin_knowledge.specs.Knowledge.{FilesFound}
 use Rattle.engine_sessions.specs.Findings.{FindsAll}
 use Rattle.engine_sessions.specs.Serves.{Serves}
+use Rattle.engine_sessions.specs.declared.following.Telling.{Telling}
 use Rattle.engine_sessions.specs.Sessions.{answers_as}
 use Rattle.engine_sessions.proofs.Serving.{reports_serve}
 use Rattle.engine_sessions.proofs.FindServing.{finds_serve}
 use Rattle.engine_compare.specs.Objects.{compared}
 use Rattle.engine_core.specs.Comparing.{ComparesBy, both_messages, compare_outcome, compared_answer, differences_by}
+use Rattle.engine_core.specs.Outcomes.{telling_of}
 
 pub compares_serve : (old_line new_line : Line) (old_found new_found : FilesFound) (old new : Result OpeningValue RunOutcome) (status : ℕ) (before now : Streams)
     → ComparesBy old_line new_line old_found new_found old new status before now → Serves (compare_outcome old_line new_line old_found new_found old new) status before now
 compares_serve old_line new_line old_found new_found (Ok old) (Ok new) status before now r =
-    finds_serve (is_for_people old_line.format) (shown_in old_line.format (both_messages old.messages new.messages)) (answers_as old_line.profile (differences_by old_line new_line old_found new_found old new)) status before now r
+    finds_serve (telling_of old_line) (shown_in old_line.format (both_messages old.messages new.messages)) (answers_as old_line.profile (differences_by old_line new_line old_found new_found old new)) status before now r
 compares_serve old_line new_line old_found new_found (Ok old) (Err said) status before now r = reports_serve (λ text. said) said status before now (λ text. refl) r
 compares_serve old_line new_line old_found new_found (Err said) new status before now r = reports_serve (λ text. said) said status before now (λ text. refl) r
 
@@ -76,10 +77,10 @@ abbrev pub reported_by : Both → EventValue → Text
 reported_by both event =
     compared both.0 event (compared_answer both.1.0.0 both.1.0.1.0 (known_by both.1.0.1.1) event) (compared_answer both.1.1.0 both.1.1.1.0 (known_by both.1.1.1.1) event)
 
-pub finds_both : (line : Line) (for_people : Bool) (messages said : Text) (both tables : Both) (status : ℕ) (before now : Streams)
-    → for_people ≡ is_for_people line.format → messages ≡ said → both ≡ tables → FindsAll for_people messages (answers_as line.profile (reported_by both)) status before now
-    → FindsAll (is_for_people line.format) said (answers_as line.profile (reported_by tables)) status before now
-finds_both line for_people messages said both tables status before now p e f h =
+pub finds_both : (line : Line) (telling : Telling) (messages said : Text) (both tables : Both) (status : ℕ) (before now : Streams)
+    → telling ≡ telling_of line → messages ≡ said → both ≡ tables → FindsAll telling messages (answers_as line.profile (reported_by both)) status before now
+    → FindsAll (telling_of line) said (answers_as line.profile (reported_by tables)) status before now
+finds_both line telling messages said both tables status before now p e f h =
     subst (λ b. FindsAll b said (answers_as line.profile (reported_by tables)) status before now) p
-    (subst (λ m. FindsAll for_people m (answers_as line.profile (reported_by tables)) status before now) e
-    (subst (λ t. FindsAll for_people messages (answers_as line.profile (reported_by t)) status before now) f h))
+    (subst (λ m. FindsAll telling m (answers_as line.profile (reported_by tables)) status before now) e
+    (subst (λ t. FindsAll telling messages (answers_as line.profile (reported_by t)) status before now) f h))

@@ -7,7 +7,6 @@ use Rattle.hwdb_lookup.specs.declared.entry.Entry.{Entry}
 use Rattle.builtin_knowledge.specs.Knowledge.{FilesFound, Known}
 use Rattle.rule_types.specs.Rules.{Rule}
 use Rattle.device_core.specs.Values.{EventValue}
-use Rattle.engine_ends.specs.Readers.{is_for_people}
 use Rattle.engine_ends.specs.declared.line.Format.{Format}
 use Rattle.engine_ends.specs.declared.line.Line.{Line}
 use Rattle.engine_ends.specs.Streams.{Streams, outputs}
@@ -35,20 +34,20 @@ use Rattle.engine_sessions.proofs.Serving.{answers_serve, reports_serve}
 use Rattle.builtin_core.specs.Builtins.{Held, known_by}
 use Rattle.engine_answers.specs.Answers.{answer_by}
 use Rattle.engine_courses.specs.Questions.{question_answer}
-use Rattle.engine_core.specs.Outcomes.{added_of, answer_by_line, answer_with, asked_of, asks_more, before_input, known_for, outcome, outcome_by, reads_modaliases, reported_for, unused_of}
+use Rattle.engine_core.specs.Outcomes.{added_of, answer_by_line, answer_with, asked_of, asks_more, before_input, known_for, outcome, outcome_by, reads_modaliases, reported_for, telling_of, unused_of}
 use Rattle.engine_core.specs.Runs.{AnswersBy, RunsBy}
 use Rattle.engine_core.specs.Reported.{ReportedValue, reported_by}
 
 -- the outcome of the answers of an opening to an input
 abbrev answered : Line → FilesFound → OpeningValue → Text → RunOutcome
-answered line found opening = input_outcome (is_for_people line.format) (shown_in line.format opening.messages) (answer_with line found opening)
+answered line found opening = input_outcome (telling_of line) (shown_in line.format opening.messages) (answer_with line found opening)
 
 opening_serves : (line : Line) (found : FilesFound) (opening : OpeningValue) (status : ℕ) (before now : Streams) → AnswersBy line found opening status before now → Serves (outcome_by line found (Ok opening)) status before now
 opening_serves line found opening status before now r = by line.unused refl
   where
     by : (v : Bool) → line.unused ≡ v → Serves (λ input. cond v (with_said (unused_of line found opening input) (answered line found opening input)) (answered line found opening input)) status before now
-    by true e = said_serve (is_for_people line.format) (shown_in line.format opening.messages) (answer_with line found opening) (unused_of line found opening) status before now (r.says e)
-    by false e = answers_serve (is_for_people line.format) (shown_in line.format opening.messages) (answer_with line found opening) status before now (r.answers e)
+    by true e = said_serve (telling_of line) (shown_in line.format opening.messages) (answer_with line found opening) (unused_of line found opening) status before now (r.says e)
+    by false e = answers_serve (telling_of line) (shown_in line.format opening.messages) (answer_with line found opening) status before now (r.answers e)
 
 runs_serve : (line : Line) (found : FilesFound) (opened : Result OpeningValue RunOutcome) (status : ℕ) (before now : Streams) → RunsBy line found opened status before now → Serves (outcome_by line found opened) status before now
 runs_serve line found (Ok opening) status before now r = opening_serves line found opening status before now r
@@ -98,14 +97,14 @@ asked_refused Memory format why opened is = tt
 
 -- events that are answered by what the line asks for are answered as it asks, and what is said is what it asks for
 answered_runs : (line : Line) (found : FilesFound) (opening : OpeningValue) (messages : Text) (answer : EventValue → Text) (says : Text → Text) (status : ℕ) (before now : Streams) → messages ≡ shown_in line.format opening.messages → answer ≡ answer_by_line line found opening → says ≡ unused_of line found opening
-    → (line.unused ≡ true → SaysAll (is_for_people line.format) messages (answers_as line.profile answer) says status before now)
-    → (line.unused ≡ false → AnswersAll (is_for_people line.format) messages (answers_as line.profile answer) status before now) → AnswersBy line found opening status before now
+    → (line.unused ≡ true → SaysAll (telling_of line) messages (answers_as line.profile answer) says status before now)
+    → (line.unused ≡ false → AnswersAll (telling_of line) messages (answers_as line.profile answer) status before now) → AnswersBy line found opening status before now
 answered_runs line found opening messages answer says status before now m a u s h = record {
-  says = λ e. subst (λ t. SaysAll (is_for_people line.format) t (answer_with line found opening) (unused_of line found opening) status before now) m
-      (subst (λ (f : EventValue → Text). SaysAll (is_for_people line.format) messages (answers_as line.profile f) (unused_of line found opening) status before now) a
-      (subst (λ (f : Text → Text). SaysAll (is_for_people line.format) messages (answers_as line.profile answer) f status before now) u (s e)));
-  answers = λ e. subst (λ t. AnswersAll (is_for_people line.format) t (answer_with line found opening) status before now) m
-      (subst (λ (f : EventValue → Text). AnswersAll (is_for_people line.format) messages (answers_as line.profile f) status before now) a (h e));
+  says = λ e. subst (λ t. SaysAll (telling_of line) t (answer_with line found opening) (unused_of line found opening) status before now) m
+      (subst (λ (f : EventValue → Text). SaysAll (telling_of line) messages (answers_as line.profile f) (unused_of line found opening) status before now) a
+      (subst (λ (f : Text → Text). SaysAll (telling_of line) messages (answers_as line.profile answer) f status before now) u (s e)));
+  answers = λ e. subst (λ t. AnswersAll (telling_of line) t (answer_with line found opening) status before now) m
+      (subst (λ (f : EventValue → Text). AnswersAll (telling_of line) messages (answers_as line.profile f) status before now) a (h e));
 }
 
 -- what is said by rules and what is known
@@ -115,8 +114,8 @@ said_by line rules held text = unused_lines (added_of line) rules (known_by held
 -- a line that asks for questions is answered with these
 pub asked_runs : (line : Line) (found : FilesFound) (opening : OpeningValue) (messages : Text) (tables : List Rule × Held) (rules : List Rule) (held : Held) (status : ℕ) (before now : Streams) → line.questions ≡ true → messages ≡ shown_in line.format opening.messages
     → tables ≡ (opening.rules, record { links = line.links.items; files = found; entries = opening.entries }) → rules ≡ tables.0 → held ≡ tables.1
-    → (line.unused ≡ true → SaysAll (is_for_people line.format) messages (answers_as line.profile (question_answer tables.0 (known_by tables.1))) (said_by line rules held) status before now)
-    → (line.unused ≡ false → AnswersAll (is_for_people line.format) messages (answers_as line.profile (question_answer tables.0 (known_by tables.1))) status before now)
+    → (line.unused ≡ true → SaysAll (telling_of line) messages (answers_as line.profile (question_answer tables.0 (known_by tables.1))) (said_by line rules held) status before now)
+    → (line.unused ≡ false → AnswersAll (telling_of line) messages (answers_as line.profile (question_answer tables.0 (known_by tables.1))) status before now)
     → AnswersBy line found opening status before now
 asked_runs line found opening messages tables rules held status before now q m t r k s h =
     let other : EventValue → Text = cond (asks_more line) (reported_by (reported_for line opening) (known_for line found opening)) (answer_by opening.rules (known_for line found opening)) in
@@ -127,8 +126,8 @@ asked_runs line found opening messages tables rules held status before now q m t
 -- a line that asks for more is answered with that
 pub reported_runs : (line : Line) (found : FilesFound) (opening : OpeningValue) (messages : Text) (tables : ReportedValue × Held) (rules : List Rule) (held : Held) (status : ℕ) (before now : Streams) → line.questions ≡ false → asks_more line ≡ true → messages ≡ shown_in line.format opening.messages
     → tables ≡ (reported_for line opening, record { links = line.links.items; files = found; entries = opening.entries }) → rules ≡ tables.0.rules → held ≡ tables.1
-    → (line.unused ≡ true → SaysAll (is_for_people line.format) messages (answers_as line.profile (reported_by tables.0 (known_by tables.1))) (said_by line rules held) status before now)
-    → (line.unused ≡ false → AnswersAll (is_for_people line.format) messages (answers_as line.profile (reported_by tables.0 (known_by tables.1))) status before now)
+    → (line.unused ≡ true → SaysAll (telling_of line) messages (answers_as line.profile (reported_by tables.0 (known_by tables.1))) (said_by line rules held) status before now)
+    → (line.unused ≡ false → AnswersAll (telling_of line) messages (answers_as line.profile (reported_by tables.0 (known_by tables.1))) status before now)
     → AnswersBy line found opening status before now
 reported_runs line found opening messages tables rules held status before now q a m t r k s h =
     let asked : EventValue → Text = question_answer opening.rules (known_for line found opening) in
@@ -143,8 +142,8 @@ reported_runs line found opening messages tables rules held status before now q 
 -- any other line is answered alone
 pub alone_runs : (line : Line) (found : FilesFound) (opening : OpeningValue) (messages : Text) (tables : List Rule × Held) (rules : List Rule) (held : Held) (status : ℕ) (before now : Streams) → line.questions ≡ false → asks_more line ≡ false → messages ≡ shown_in line.format opening.messages
     → tables ≡ (opening.rules, record { links = line.links.items; files = found; entries = opening.entries }) → rules ≡ tables.0 → held ≡ tables.1
-    → (line.unused ≡ true → SaysAll (is_for_people line.format) messages (answers_as line.profile (answer_by tables.0 (known_by tables.1))) (said_by line rules held) status before now)
-    → (line.unused ≡ false → AnswersAll (is_for_people line.format) messages (answers_as line.profile (answer_by tables.0 (known_by tables.1))) status before now)
+    → (line.unused ≡ true → SaysAll (telling_of line) messages (answers_as line.profile (answer_by tables.0 (known_by tables.1))) (said_by line rules held) status before now)
+    → (line.unused ≡ false → AnswersAll (telling_of line) messages (answers_as line.profile (answer_by tables.0 (known_by tables.1))) status before now)
     → AnswersBy line found opening status before now
 alone_runs line found opening messages tables rules held status before now q a m t r k s h =
     let asked : EventValue → Text = question_answer opening.rules (known_for line found opening) in

@@ -9,8 +9,7 @@ use Rattle.device_core.specs.Values.{EventValue}
 use Rattle.builtin_knowledge.specs.Knowledge.{FilesFound, Known}
 use Rattle.rule_types.specs.Rules.{Rule}
 use Rattle.engine_answers.specs.Answers.{answer_by, sourced_lines}
-use Rattle.engine_core.specs.Outcomes.{is_json, known_for}
-use Rattle.engine_ends.specs.Readers.{is_for_people}
+use Rattle.engine_core.specs.Outcomes.{is_json, known_for, telling_of}
 use Rattle.engine_ends.specs.declared.line.Line.{Line}
 use Rattle.engine_ends.specs.Delivery.{RunOutcome}
 use Rattle.engine_ends.specs.Streams.{Streams}
@@ -48,7 +47,7 @@ both_messages old new = marked_text (codes "[OLD] ") old ++ marked_text (codes "
 -- opened, what is said about that, about the old one first.
 abbrev pub compare_outcome : (old_line new_line : Line) → (old_found new_found : FilesFound) → (old new : Result OpeningValue RunOutcome) → Text → RunOutcome
 compare_outcome old_line new_line old_found new_found (Ok old) (Ok new) input =
-    found (input_outcome (is_for_people old_line.format) (shown_in old_line.format (both_messages old.messages new.messages))
+    found (input_outcome (telling_of old_line) (shown_in old_line.format (both_messages old.messages new.messages))
     (answers_as old_line.profile (differences_by old_line new_line old_found new_found old new)) input)
 compare_outcome old_line new_line old_found new_found (Ok old) (Err said) input = said
 compare_outcome old_line new_line old_found new_found (Err said) new input = said
@@ -57,7 +56,7 @@ compare_outcome old_line new_line old_found new_found (Err said) new input = sai
 abbrev pub ComparesBy : (old_line new_line : Line) → (old_found new_found : FilesFound) → (old new : Result OpeningValue RunOutcome)
     → ℕ → Streams → Streams → Type 0
 ComparesBy old_line new_line old_found new_found (Ok old) (Ok new) status before now =
-    FindsAll (is_for_people old_line.format) (shown_in old_line.format (both_messages old.messages new.messages))
+    FindsAll (telling_of old_line) (shown_in old_line.format (both_messages old.messages new.messages))
     (answers_as old_line.profile (differences_by old_line new_line old_found new_found old new)) status before now
 ComparesBy old_line new_line old_found new_found (Ok old) (Err said) status before now = Reports said status before now
 ComparesBy old_line new_line old_found new_found (Err said) new status before now = Reports said status before now

@@ -21,15 +21,16 @@ use Rattle.engine_reports.specs.Outcomes.{query_over, usage_error}
 use Rattle.builtin_core.specs.Builtins.{known_by}
 use Rattle.builtin_knowledge.specs.Knowledge.{FilesFound, Known}
 use Rattle.engine_answers.specs.Answers.{answer_by}
+use Rattle.engine_checks.specs.Outcomes.{update_outcome, verify_outcome}
 use Rattle.engine_courses.specs.Asked.{unknown}
 use Rattle.engine_formats.specs.Masked.{shown_in}
-use Rattle.engine_core.specs.Checking.{update_said, verify_said}
 use Rattle.engine_core.specs.Mending.{mend_said}
 use Rattle.engine_core.specs.Reported.{ReportedValue, reported_by}
 use Rattle.engine_courses.specs.Questions.{question_answer}
 use Rattle.engine_sessions.specs.Outcomes.{input_outcome}
 use Rattle.engine_sessions.specs.Sessions.{answers_as}
 use Rattle.engine_sessions.specs.Tallies.{events_of, with_said}
+use Rattle.engine_sessions.specs.declared.following.Telling.{Telling}
 use Rattle.engine_unused.specs.Unused.{unused_lines}
 
 -- the texts of a line's `--why`
@@ -94,16 +95,21 @@ asked_of format why (Err said) = Err said
 -- for any other command what it says. Only `query` and `events` look at an index.
 abbrev pub before_input : Verb → Line → List SourceFile → Option (Result Contents IndexFault) → Result OpeningValue RunOutcome
 before_input Query line files opened = Err (query_over line files opened)
-before_input Update line files opened = Err (update_said line files)
-before_input Verify line files opened = Err (verify_said line files)
+before_input Update line files opened = Err (update_outcome line files)
+before_input Verify line files opened = Err (verify_outcome line files)
 before_input Mend line files opened = Err (mend_said line files)
 before_input Events line files opened = asked_of line.format (why_of line) (opening line files opened)
+
+-- how a run of a line tells what is no answer: for people if its format is for them, and then and with `--all` also that its input has no
+-- block
+abbrev pub telling_of : Line → Telling
+telling_of line = record { for_people = is_for_people line.format; no_block = line.all || is_for_people line.format }
 
 -- the outcome of a run over an input: the messages of its opening, as the line's format shows them, and the answers to the blocks of the input, with the
 -- rules that are unused after them if the line asks for that; or what is said without looking at the input
 abbrev pub outcome_by : Line → FilesFound → Result OpeningValue RunOutcome → Text → RunOutcome
 outcome_by line found (Ok opening) input =
-    let answered = input_outcome (is_for_people line.format) (shown_in line.format opening.messages) (answer_with line found opening) input in
+    let answered = input_outcome (telling_of line) (shown_in line.format opening.messages) (answer_with line found opening) input in
     if line.unused then with_said (unused_of line found opening input) answered else answered
 outcome_by line found (Err said) input = said
 

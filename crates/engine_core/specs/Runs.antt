@@ -5,7 +5,6 @@ use Rattle.text_bytes.specs.Text.{Text}
 use Rattle.index_reading.specs.declared.fault.IndexFault.{IndexFault}
 use Rattle.index_reading.specs.Contents.{Contents}
 use Rattle.builtin_knowledge.specs.Knowledge.{FilesFound}
-use Rattle.engine_ends.specs.Readers.{is_for_people}
 use Rattle.engine_ends.specs.declared.line.Line.{Line}
 use Rattle.engine_ends.specs.Streams.{Streams}
 use Rattle.engine_ends.specs.Delivery.{RunOutcome}
@@ -16,15 +15,15 @@ use Rattle.engine_reports.specs.Indexes.{Opens}
 use Rattle.engine_reports.specs.Openings.{OpeningValue}
 use Rattle.engine_sessions.specs.Serves.{AnswersAll, Reports, Serves}
 use Rattle.engine_sessions.specs.Tallies.{SaysAll}
-use Rattle.engine_core.specs.Outcomes.{answer_with, before_input, outcome, reads_modaliases, unused_of}
+use Rattle.engine_core.specs.Outcomes.{answer_with, before_input, outcome, reads_modaliases, telling_of, unused_of}
 
 -- The messages of an opening, as the line's format shows them, the answers to an input after them, and, if the line asks for that, the rules that are unused after
 -- these, step by step.
 pub record AnswersBy (line : Line) (found : FilesFound) (opening : OpeningValue) (status : ℕ) (before now : Streams) : Type 0 where
   pub says : line.unused ≡ true
-      → SaysAll (is_for_people line.format) (shown_in line.format opening.messages) (answer_with line found opening) (unused_of line found opening) status before now
+      → SaysAll (telling_of line) (shown_in line.format opening.messages) (answer_with line found opening) (unused_of line found opening) status before now
   pub answers : line.unused ≡ false
-      → AnswersAll (is_for_people line.format) (shown_in line.format opening.messages) (answer_with line found opening) status before now
+      → AnswersAll (telling_of line) (shown_in line.format opening.messages) (answer_with line found opening) status before now
 
 -- a run of a line, by its outcome before it looks at its input
 abbrev pub RunsBy : Line → FilesFound → Result OpeningValue RunOutcome → ℕ → Streams → Streams → Type 0

@@ -2,15 +2,15 @@
 ghost use Rattle.std.specs.Prelude.{◌≡◌, Ok, Err, Some, None, IfOk, IfErr, option_map, Result};
 ghost use Rattle.engine_ends.specs.Delivery.{RunOutcome};
 ghost use Rattle.engine_core.specs.Comparing.{ComparesBy, ComparesOver, both_messages, differences_by};
+ghost use Rattle.engine_core.specs.Outcomes.{telling_of};
 ghost use Rattle.engine_reports.specs.Indexes.{entries_in};
 ghost use Rattle.engine_reports.specs.Openings.{OpeningValue, opening};
 ghost use Rattle.engine_reports.specs.Reports.{IsRefused, shown_rules};
-ghost use Rattle.engine_ends.specs.Readers.{is_for_people};
 ghost use Rattle.engine_formats.specs.Masked.{shown_in};
 ghost use Rattle.engine_sessions.specs.Findings.{FindsAll};
 ghost use Rattle.engine_sessions.specs.Sessions.{answers_as};
 
-use crate::events::is_json;
+use crate::events::{is_json, telling_of};
 use crate::shared::Shared;
 use crate::sides::ComparedTables;
 use builtin_core::Builtins;
@@ -153,7 +153,7 @@ fn compare_rules<L: Lookup + Drop, M: Lookup + Drop, R: Source, W: Sink, E: Sink
     output: &mut W,
     error: &mut E,
 ) -> u8
-    ensures { FindsAll (is_for_people old_line.now.format) (shown_in old_line.now.format (both_messages old.messages.items new.messages.items))
+    ensures { FindsAll (telling_of old_line.now) (shown_in old_line.now.format (both_messages old.messages.items new.messages.items))
         (answers_as old_line.now.profile (differences_by old_line.now new_line.now old_found.now new_found.now (shown_rules old (L.entries old_lookup))
         (shown_rules new (M.entries new_lookup)))) result
         (record { input = R.shown input.old; out = W.shown output.old; err = E.shown error.old })
@@ -161,7 +161,7 @@ fn compare_rules<L: Lookup + Drop, M: Lookup + Drop, R: Source, W: Sink, E: Sink
 {
     let old_builtins = Builtins::new(old_lookup, &old_line.links, old_found);
     let new_builtins = Builtins::new(new_lookup, &new_line.links, new_found);
-    let for_people = old_line.format.is_for_people();
+    let telling = telling_of(old_line);
     let asked = Asked {
         json: is_json(old_line.format),
         sources: old_line.sources,
@@ -170,7 +170,7 @@ fn compare_rules<L: Lookup + Drop, M: Lookup + Drop, R: Source, W: Sink, E: Sink
         Ok((messages, tables)) => find_after_messages(
             alloc,
             old_line.profile,
-            for_people,
+            telling,
             &shown_in(old_line.format, messages),
             &tables,
             input,

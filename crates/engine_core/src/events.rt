@@ -1,8 +1,7 @@
 //! `events`: the messages, and then the answers to the blocks of the input.
 ghost use Rattle.std.specs.Prelude.{◌≡◌, true, false, Ok, IfOk, IfErr, Some, Result};
 ghost use Rattle.engine_ends.specs.Delivery.{RunOutcome};
-ghost use Rattle.engine_ends.specs.Readers.{is_for_people};
-ghost use Rattle.engine_core.specs.Outcomes.{added_of, asked_of, asks_more, is_json, why_of};
+ghost use Rattle.engine_core.specs.Outcomes.{added_of, asked_of, asks_more, is_json, telling_of, why_of};
 ghost use Rattle.engine_core.specs.Runs.{AnswersBy, RunsBy};
 ghost use Rattle.engine_reports.specs.Indexes.{entries_in};
 ghost use Rattle.engine_reports.specs.Openings.{OpeningValue, opening};
@@ -23,7 +22,7 @@ use engine_formats::shown_in;
 use engine_reports::{
     Refusal, RulesRead, deliver_refusal, deliver_usage_error, open_rules, open_with_database,
 };
-use engine_sessions::{Answering, answer_after_messages, answer_and_tally};
+use engine_sessions::{Answering, Telling, answer_after_messages, answer_and_tally};
 use engine_unused::UnusedTally;
 use hwdb_lookup::Lookup;
 use index_reading::{Index, IndexFault};
@@ -182,6 +181,17 @@ fn asks_more(line: &Line<'_>) -> bool
     line.sources || !line.why.is_empty() || is_json(line.format)
 }
 
+/// How a run of a line tells what is no answer.
+pub(crate) fn telling_of(line: &Line<'_>) -> Telling
+    ensures { result ≡ telling_of line.now }
+{
+    let for_people = line.format.is_for_people();
+    Telling {
+        for_people,
+        no_block: line.all | for_people,
+    }
+}
+
 /// Writes the messages and answers the input; if the line asks for that, the rules that no event met follow the answers.
 fn answer_and_say<A: Answering, K: Knowledge, R: Source, W: Sink, E: Sink>(
     alloc: Global,
@@ -195,25 +205,25 @@ fn answer_and_say<A: Answering, K: Knowledge, R: Source, W: Sink, E: Sink>(
     error: &mut E,
 ) -> u8
     ensures says { line.now.unused ≡ true
-        → SaysAll (is_for_people line.now.format) messages.now (answers_as line.now.profile (A.answers answering.now))
+        → SaysAll (telling_of line.now) messages.now (answers_as line.now.profile (A.answers answering.now))
         (λ text. unused_lines (added_of line.now) rules.now (K.known knowledge.now) (events_of line.now.profile text)) result
         (record { input = R.shown input.old; out = W.shown output.old; err = E.shown error.old })
         (record { input = R.shown input.new; out = W.shown output.new; err = E.shown error.new }) }
     ensures answers { line.now.unused ≡ false
-        → AnswersAll (is_for_people line.now.format) messages.now (answers_as line.now.profile (A.answers answering.now)) result
+        → AnswersAll (telling_of line.now) messages.now (answers_as line.now.profile (A.answers answering.now)) result
         (record { input = R.shown input.old; out = W.shown output.old; err = E.shown error.old })
         (record { input = R.shown input.new; out = W.shown output.new; err = E.shown error.new }) }
 {
     let profile = line.profile;
-    let for_people = line.format.is_for_people();
+    let telling = telling_of(line);
     if !line.unused {
         return answer_after_messages(
-            alloc, profile, for_people, messages, answering, input, output, error,
+            alloc, profile, telling, messages, answering, input, output, error,
         );
     }
     match UnusedTally::new(alloc, &line.added, rules, knowledge) {
         Ok(tally) => answer_and_tally(
-            alloc, profile, for_people, messages, answering, tally, input, output, error,
+            alloc, profile, telling, messages, answering, tally, input, output, error,
         ),
         Err(_) => report_out_of_memory(error),
     }

@@ -8,7 +8,6 @@
 #![tactic(auto)]
 
 mod asked;
-mod checking;
 mod comparing;
 mod events;
 mod mending;

@@ -3,10 +3,10 @@ ghost use Rattle.std.specs.Prelude.{◌≡◌, false, option_map};
 ghost use Rattle.engine_core.specs.Outcomes.{before_input, reads_modaliases};
 ghost use Rattle.engine_core.specs.Runs.{RunsBy, RunsOver};
 
-use crate::checking::{report_on_index, report_on_verify};
 use crate::events::serve_events;
 use crate::mending::report_on_mending;
 use builtin_knowledge::RootFiles;
+use engine_checks::{report_on_update, report_on_verify};
 use engine_ends::{Line, Sink, Source, Verb};
 use engine_lookups::serve_lookups;
 use engine_reports::{deliver_report, open_index, report_on_query};
@@ -88,7 +88,7 @@ fn serve_verb<R: Source, W: Sink, E: Sink>(
 {
     match line.verb {
         Verb::Query => deliver_report(report_on_query(alloc, line, files, opened), output, error),
-        Verb::Update => deliver_report(report_on_index(alloc, line, files), output, error),
+        Verb::Update => deliver_report(report_on_update(alloc, line, files), output, error),
         Verb::Verify => deliver_report(report_on_verify(alloc, line, files), output, error),
         Verb::Mend => deliver_report(report_on_mending(alloc, line, files), output, error),
         Verb::Events => serve_events(alloc, line, files, found, opened, input, output, error),

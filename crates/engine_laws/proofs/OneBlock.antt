@@ -1,5 +1,5 @@
--- What `events` and `compare` write over one block.
-use Rattle.std.proofs.Common.{◌≡◌, Bool, true, false, ◌||◌, not, ◌==◌, cond, List, [], ◌∷◌, ◌++◌, Result, Ok, refl, ap, ap₂, sym, ◌∙◌, true≢false}
+-- What `events` and `compare` write over one block, and over none.
+use Rattle.std.proofs.Common.{◌≡◌, Bool, true, false, ◌||◌, ◌&&◌, not, ◌==◌, cond, List, [], ◌∷◌, ◌++◌, Result, Ok, refl, ap, ap₂, sym, ◌∙◌, true≢false}
 use Rattle.std.proofs.lemmas.List.{append-nil}
 use Rattle.std.specs.Prelude.{vec_len}
 use Rattle.text_bytes.specs.Text.{Text}
@@ -13,7 +13,7 @@ use Rattle.engine_answers.specs.Answers.{answer_by, sourced_lines}
 use Rattle.engine_compare.specs.Differences.{ShownAnswer, differences, itself}
 use Rattle.engine_compare.specs.Objects.{compared, differences_in_json}
 use Rattle.engine_core.specs.Comparing.{both_messages, compare_outcome, compared_answer, differences_by}
-use Rattle.engine_core.specs.Outcomes.{answer_by_line, answer_with, asks_more, is_json, known_for, outcome_by, reported_for, unused_of, why_of}
+use Rattle.engine_core.specs.Outcomes.{answer_by_line, answer_with, asks_more, is_json, known_for, outcome_by, reported_for, telling_of, unused_of, why_of}
 use Rattle.engine_core.specs.Reported.{reported_by}
 use Rattle.engine_courses.specs.Questions.{question_answer}
 use Rattle.engine_ends.specs.Delivery.{RunOutcome}
@@ -22,17 +22,36 @@ use Rattle.engine_ends.specs.declared.line.Line.{Line}
 use Rattle.engine_formats.specs.Masked.{shown_in}
 use Rattle.engine_reports.specs.Openings.{OpeningValue}
 use Rattle.engine_sessions.specs.Answers.{answers_to, well, with_block}
-use Rattle.engine_sessions.specs.Outcomes.{answered, input_outcome}
+use Rattle.engine_sessions.specs.Outcomes.{answered, input_outcome, no_block_line}
 use Rattle.engine_sessions.specs.Sessions.{answers_as}
 use Rattle.engine_sessions.specs.Tallies.{with_said}
+use Rattle.engine_sessions.specs.declared.following.Telling.{Telling}
 
 -- the output over one block is the answer to its event
-one_answer : (for_people : Bool) (messages : Text) (answer : EventValue → Text) (input block : Text) (event : EventValue) → runs input ≡ block ∷ [] → block_gives block ≡ Ok event
-    → (input_outcome for_people messages answer input).output ≡ answer event
-one_answer for_people messages answer input block event one gives =
-    ap (λ (blocks : List Text). (answered for_people messages (answers_to answer blocks)).output) one
-    ∙ ap (λ (given : Result EventValue BlockFault). (answered for_people messages (with_block answer given (well []))).output) gives
+one_answer : (telling : Telling) (messages : Text) (answer : EventValue → Text) (input block : Text) (event : EventValue) → runs input ≡ block ∷ [] → block_gives block ≡ Ok event
+    → (input_outcome telling messages answer input).output ≡ answer event
+one_answer telling messages answer input block event one gives =
+    ap (λ (blocks : List Text). (answered telling messages (answers_to answer blocks)).output) one
+    ∙ ap (λ (given : Result EventValue BlockFault). (answered telling messages (with_block answer given (well []))).output) gives
     ∙ append-nil (answer event)
+
+-- what is written over no block after messages, by whether that is told
+abbrev nothing_after : Text → Bool → RunOutcome
+nothing_after messages told = record { output = []; messages = cond told (messages ++ no_block_line) messages; status = 0 }
+
+told_alone : (messages : Text) (told : Bool) → nothing_after messages (told && true) ≡ nothing_after messages told
+told_alone messages true = refl
+told_alone messages false = refl
+
+-- what `events` writes over no block, by whether that is told
+pub none_told : (line : Line) (found : FilesFound) (opening : OpeningValue) → line.unused ≡ false → (told : Bool) → (line.all || is_for_people line.format) ≡ told
+    → outcome_by line found (Ok opening) [] ≡ record { output = []; messages = cond told (shown_in line.format opening.messages ++ no_block_line) (shown_in line.format opening.messages); status = 0 }
+none_told line found opening unused told is =
+    let messages : Text = shown_in line.format opening.messages in
+    let own : RunOutcome = input_outcome (telling_of line) messages (answer_with line found opening) [] in
+    ap (λ (b : Bool). cond {A = RunOutcome} b (with_said (unused_of line found opening []) own) own) unused
+    ∙ ap (λ (b : Bool). nothing_after messages (b && true)) is
+    ∙ told_alone messages told
 
 neither : (a b c : Bool) → ((a || b) || c) ≡ false → (a ≡ false) × (c ≡ false)
 neither true b c h = absurd (true≢false h)
@@ -53,9 +72,9 @@ module _ (line : Line) (found : FilesFound) (opening : OpeningValue) (more : ask
   pub event_answer : line.unused ≡ false → (profile : Profile) → line.profile ≡ profile → (input block : Text) (event : EventValue) → runs input ≡ block ∷ [] → block_gives block ≡ Ok event
       → (outcome_by line found (Ok opening) input).output ≡ answer_by opening.rules known (by_profile profile event)
   event_answer unused profile is input block event one gives =
-      let own : RunOutcome = input_outcome (is_for_people line.format) (shown_in line.format opening.messages) (answer_with line found opening) input in
+      let own : RunOutcome = input_outcome (telling_of line) (shown_in line.format opening.messages) (answer_with line found opening) input in
       ap (λ (b : Bool). (cond {A = RunOutcome} b (with_said (unused_of line found opening input) own) own).output) unused
-      ∙ one_answer (is_for_people line.format) (shown_in line.format opening.messages) (answer_with line found opening) input block event one gives
+      ∙ one_answer (telling_of line) (shown_in line.format opening.messages) (answer_with line found opening) input block event one gives
       ∙ plain_answer (by_profile line.profile event)
       ∙ ap (λ (p : Profile). answer_by opening.rules known (by_profile p event)) is
 
@@ -82,7 +101,7 @@ module _ (old_line new_line : Line) (old_found new_found : FilesFound) (old new 
       → (compare_outcome old_line new_line old_found new_found (Ok old) (Ok new) input).output
       ≡ differences (by_profile old_line.profile event) (itself (outcome_by old_line old_found (Ok old) input).output) (itself (outcome_by new_line new_found (Ok new) input).output)
   compared_answers same old_questions old_unused new_questions new_unused input block event one gives =
-      one_answer (is_for_people old_line.format) (shown_in old_line.format (both_messages old.messages new.messages)) (answers_as old_line.profile (differences_by old_line new_line old_found new_found old new)) input block event one gives
+      one_answer (telling_of old_line) (shown_in old_line.format (both_messages old.messages new.messages)) (answers_as old_line.profile (differences_by old_line new_line old_found new_found old new)) input block event one gives
       ∙ plain_differences (by_profile old_line.profile event)
       ∙ sym (ap₂ (λ (a b : Text). differences (by_profile old_line.profile event) (itself a) (itself b))
       (event_answer old_line old_found old old_more old_questions old_unused old_line.profile refl input block event one gives)

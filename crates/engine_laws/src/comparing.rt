@@ -1,7 +1,7 @@
-//! What is true of the lines of `compare`.
+//! What is true of the lines of `compare`, and of what it and `events` tell of an input without a block.
 //!
 //! Each function here is empty: its contract is the law.
-ghost use Rattle.std.specs.Prelude.{◌≡◌, ◌==◌, ◌&&◌, [], ◌∷◌, ◌++◌, Ok, codes, false, flat_map, if◌then◌else◌, is_ok, length};
+ghost use Rattle.std.specs.Prelude.{◌≡◌, ◌==◌, ◌&&◌, [], ◌∷◌, ◌++◌, Ok, codes, false, true, flat_map, if◌then◌else◌, is_ok, length};
 ghost use Rattle.std.specs.List.{list_all};
 ghost use Rattle.text_bytes.specs.Lines.{lines};
 ghost use Rattle.text_bytes.specs.Names.{newline};
@@ -16,6 +16,7 @@ ghost use Rattle.engine_compare.specs.Differences.{differences, itself};
 ghost use Rattle.engine_compare.specs.Objects.{compared};
 ghost use Rattle.engine_core.specs.Comparing.{compare_outcome, compared_answer};
 ghost use Rattle.engine_core.specs.Outcomes.{asks_more, is_json, known_for, outcome_by};
+ghost use Rattle.engine_ends.specs.Readers.{is_for_people};
 ghost use Rattle.engine_ends.specs.declared.line.Line.{Line};
 ghost use Rattle.engine_reports.specs.Openings.{OpeningValue};
 ghost use Rattle.engine_sessions.specs.Answers.{answers_of};
@@ -43,6 +44,18 @@ pub fn what_events_answers_is_compared()
         → (compare_outcome old_line new_line old_found new_found (Ok old) (Ok new) input).output
         ≡ differences (by_profile old_line.profile event) (itself (outcome_by old_line old_found (Ok old) input).output)
         (itself (outcome_by new_line new_found (Ok new) input).output) }
+{}
+
+/// With `--all` or for people it is told after the messages that an input has no block, and otherwise not. The status stays 0.
+pub fn an_input_without_a_block_is_told_if_that_is_asked_for()
+    ensures all { (line : Line) (found : FilesFound) (opening : OpeningValue) → line.unused ≡ false → line.all ≡ true
+        → outcome_by line found (Ok opening) []
+        ≡ record { output = []; messages = shown_in line.format opening.messages ++ codes "devdry: no event block in the input\n"; status = 0 } }
+    ensures people { (line : Line) (found : FilesFound) (opening : OpeningValue) → line.unused ≡ false → is_for_people line.format ≡ true
+        → outcome_by line found (Ok opening) []
+        ≡ record { output = []; messages = shown_in line.format opening.messages ++ codes "devdry: no event block in the input\n"; status = 0 } }
+    ensures unasked { (line : Line) (found : FilesFound) (opening : OpeningValue) → line.unused ≡ false → line.all ≡ false → is_for_people line.format ≡ false
+        → outcome_by line found (Ok opening) [] ≡ record { output = []; messages = shown_in line.format opening.messages; status = 0 } }
 {}
 
 /// A line `nowatch` is compared, though it begins as a note does, and notes are not.

@@ -10,16 +10,14 @@ use Rattle.hwdb_core.specs.Sources.{WithinBounds, are_few, entries_of, messages_
 use Rattle.hwdb_core.specs.declared.fault.HwdbFault.{HwdbFault}
 use Rattle.hwdb_core.specs.declared.fault.HwdbFault.TheVariants as hwdb
 use Rattle.rule_types.specs.Rules.{tokens_in}
-use Rattle.rule_core.specs.Rules.{set_of, set_of_as}
+use Rattle.rule_core.specs.Rules.{set_of_as}
 use Rattle.rule_core.specs.declared.fault.RulesFault.{RulesFault}
 use Rattle.rule_core.specs.declared.fault.RulesFault.TheVariants as rules
 use Rattle.index_reading.specs.declared.fault.IndexFault.{IndexFault}
-use Rattle.engine_ends.specs.declared.line.Line.{Line}
-use Rattle.engine_reports.specs.Checks.{reported, said_of}
 use Rattle.engine_ends.specs.Delivery.{RunOutcome}
 use Rattle.engine_reports.specs.Databases.{database_of}
 use Rattle.engine_reports.specs.Messages.{message_lines}
-use Rattle.engine_reports.specs.Outcomes.{database_outcome, rules_outcome, too_many_entries, too_many_rules}
+use Rattle.engine_reports.specs.Outcomes.{database_outcome, too_many_entries, too_many_rules}
 use Rattle.engine_reports.specs.Indexes.{refused_index}
 use Rattle.engine_reports.specs.declared.refusal.Refusal.{Refusal}
 use Rattle.engine_reports.specs.declared.refusal.Refusal.TheVariants.{TooManyEntries, TooManyRules, Index}
@@ -56,24 +54,11 @@ pub database_refused : (files : List SourceFile) (fault : HwdbFault) → (fault 
 database_refused files hwdb.TooMany beyond = database_many files (beyond refl)
 database_refused files hwdb.Memory beyond = tt
 
-pub rules_few : (line : Line) (files : List SourceFile) → tokens_in (set_of files).rules ≤ 2 ^ 24 → rules_outcome line files ≡ said_of line.summary files (reported line.style (set_of files).messages)
-unfolding rules_outcome
-rules_few line files w = rw (le-leb (tokens_in (set_of files).rules) (2 ^ 24) w) refl
-
 beyond : (n m : ℕ) → m < n → leb n m ≡ false
 beyond n m h = false_from_ne_true (leb n m) (λ e. not_both n m h (leb-true n m e))
   where
     not_both : (n m : ℕ) → m < n → n ≤ m → ⊥
     not_both n m h k = omega (arith, h, k)
-
-rules_many : (line : Line) (files : List SourceFile) → 2 ^ 24 < tokens_in (set_of files).rules → rules_outcome line files ≡ too_many_rules
-unfolding rules_outcome
-rules_many line files h = rw (beyond (tokens_in (set_of files).rules) (2 ^ 24) h) refl
-
--- what becomes of a fault of rules is what is said of their files
-pub rules_refused : (line : Line) (files : List SourceFile) (fault : RulesFault) → (fault ≡ rules.TooMany → 2 ^ 24 < tokens_in (set_of files).rules) → IsSaid (refused_rules fault) (rules_outcome line files)
-rules_refused line files rules.TooMany h = rules_many line files (h refl)
-rules_refused line files rules.Memory h = tt
 
 pub entries_said : (refusal : Refusal) (outcome : RunOutcome) → refusal ≡ TooManyEntries → IsSaid refusal outcome → outcome ≡ too_many_entries
 entries_said refusal outcome e said = subst (λ r. IsSaid r outcome) e said

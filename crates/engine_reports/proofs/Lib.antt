@@ -1,4 +1,3 @@
 pub mod Bounding
 pub mod Bounds
 pub mod Fitting
-pub mod Telling

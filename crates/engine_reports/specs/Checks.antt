@@ -1,17 +1,10 @@
--- What `verify` says about rules files.
-use Rattle.std.specs.Prelude.{ℕ, ◌-◌, Bool, ◌==◌, not, if◌then◌else◌, List, [], ◌++◌, length, codes, decimal, filter, map}
+-- What `verify` says about files, by what is reported for them.
+use Rattle.std.specs.Prelude.{ℕ, ◌-◌, Bool, ◌==◌, if◌then◌else◌, List, [], ◌++◌, length, codes, decimal}
 use Rattle.std.specs.List.{count_by}
 use Rattle.text_bytes.specs.declared.source_file.SourceFile.{SourceFile}
-use Rattle.file_messages.specs.Messages.{is_style}
-use Rattle.file_messages.specs.declared.message.Message.{Message}
 use Rattle.text_bytes.specs.Text.{Text}
 use Rattle.text_tables.specs.Texts.{is_among}
 use Rattle.engine_ends.specs.Delivery.{RunOutcome}
-use Rattle.engine_reports.specs.Messages.{message_lines}
-
--- the messages that are given: all, or without style those that are not about it
-unfoldable pub reported : Bool → List Message → List Message
-reported style messages = if style then messages else filter (λ m. not (is_style m.kind)) messages
 
 -- how many of the files are bad: something is reported under their name
 abbrev pub bad_count : List SourceFile → List Text → ℕ
@@ -32,7 +25,3 @@ files_said summary files names lines = record {
   messages = lines;
   status = verify_status (bad_count files names);
 }
-
--- what is said about files and the messages about them that are given
-abbrev pub said_of : Bool → List SourceFile → List Message → RunOutcome
-said_of summary files messages = files_said summary files (map (λ m. m.file) messages) (message_lines messages)

@@ -5,6 +5,5 @@ pub mod Openings
 pub mod Indexes
 pub mod Outcomes
 pub mod Messages
-pub mod Told
 pub mod Answers
 pub mod Databases

@@ -1,6 +1,7 @@
 -- What comes before the first answer to an event: the messages, and what events are answered by.
-use Rattle.std.specs.Prelude.{false, if◌then◌else◌, List, [], ◌++◌, Option, Some, None, Result, Ok, Err}
+use Rattle.std.specs.Prelude.{if◌then◌else◌, List, [], ◌++◌, filter, not, Option, Some, None, Result, Ok, Err}
 use Rattle.text_bytes.specs.Text.{Text}
+use Rattle.file_messages.specs.Messages.{is_style}
 use Rattle.file_messages.specs.declared.message.Message.{Message}
 use Rattle.text_bytes.specs.declared.profile.Profile.{Profile}
 use Rattle.text_bytes.specs.declared.source_file.SourceFile.{SourceFile}
@@ -12,7 +13,6 @@ use Rattle.rule_core.specs.Rules.{set_of_as}
 use Rattle.index_reading.specs.declared.fault.IndexFault.{IndexFault}
 use Rattle.index_reading.specs.Contents.{Contents}
 use Rattle.engine_ends.specs.declared.line.Line.{Line}
-use Rattle.engine_reports.specs.Checks.{reported}
 use Rattle.engine_ends.specs.Delivery.{RunOutcome}
 use Rattle.engine_reports.specs.FilesRead.{files_read, rules_read}
 use Rattle.engine_reports.specs.Indexes.{entries_in, refused_index}
@@ -26,9 +26,13 @@ pub record OpeningValue : Type 0 where
   pub rules : List Rule
   pub entries : List Entry
 
+-- the messages that are not about style
+abbrev pub without_style : List Message → List Message
+without_style messages = filter (λ m. not (is_style m.kind)) messages
+
 -- the lines of the messages about rules that are not about style, and then of those about a database
 abbrev pub opening_messages : List Message → List Message → Text
-opening_messages rules database = message_lines (reported false rules) ++ message_lines database
+opening_messages rules database = message_lines (without_style rules) ++ message_lines database
 
 -- what comes before the first answer, by rules files read by a profile, messages about a database and its entries, if
 -- the rules hold no more than they may, and else what is said about that

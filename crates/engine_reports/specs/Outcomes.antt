@@ -1,27 +1,20 @@
 -- What a run says: its outcome, as a function of the command line and of the files passed in.
-use Rattle.std.specs.Prelude.{ℕ, ◌^◌, Bool, ◌==◌, ◌&&◌, nat_le, not, if◌then◌else◌, List, [], ◌++◌, Option, Some, None, Result, Ok, Err, length, codes}
+use Rattle.std.specs.Prelude.{◌^◌, Bool, nat_le, if◌then◌else◌, List, [], ◌++◌, Option, Some, None, Result, Ok, Err, codes}
 use Rattle.text_bytes.specs.declared.source_file.SourceFile.{SourceFile}
-use Rattle.text_bytes.specs.declared.source_file.FileKind.TheVariants.{Hwdb, Rules}
+use Rattle.text_bytes.specs.declared.source_file.FileKind.TheVariants.{Hwdb}
 use Rattle.file_messages.specs.declared.message.Message.{Message}
 use Rattle.text_bytes.specs.Text.{Text}
 use Rattle.hwdb_lookup.specs.declared.entry.Entry.{Entry}
 use Rattle.hwdb_core.specs.Sources.{are_few, entries_of, messages_of}
 use Rattle.rule_types.specs.Rules.{Rule, tokens_in}
-use Rattle.rule_core.specs.Rules.{set_of}
 use Rattle.index_reading.specs.declared.fault.IndexFault.{IndexFault}
-use Rattle.trie_core.specs.Image.{image}
 use Rattle.index_reading.specs.Contents.{Contents}
 use Rattle.engine_ends.specs.declared.line.Line.{Line}
 use Rattle.engine_reports.specs.Answers.{answer_lines}
-use Rattle.engine_reports.specs.Checks.{reported, said_of}
 use Rattle.engine_ends.specs.Delivery.{RunOutcome}
 use Rattle.engine_reports.specs.FilesRead.{files_read}
 use Rattle.engine_reports.specs.Indexes.{entries_in, refused_index}
 use Rattle.engine_reports.specs.Messages.{message_lines}
-
--- the status of `update`: 1 if it is strict and there is a message
-abbrev pub update_status : Bool → ℕ → ℕ
-update_status strict count = if strict && not (count == 0) then 1 else 0
 
 -- what `query` says about the entries of the database and the messages about its files
 abbrev pub query_outcome : Line → List Entry → List Message → RunOutcome
@@ -29,14 +22,6 @@ query_outcome line entries messages = record {
   output = answer_lines line.sources entries line.modalias.now;
   messages = message_lines messages;
   status = 0;
-}
-
--- what `update` says about the entries of the database and the messages about its files: the entries as an index
-abbrev pub update_outcome : Line → List Entry → List Message → RunOutcome
-update_outcome line entries messages = record {
-  output = image entries;
-  messages = message_lines messages;
-  status = update_status line.strict (length messages);
 }
 
 -- what is said about files that hold more than a database may
@@ -64,13 +49,3 @@ abbrev pub query_over : Line → List SourceFile → Option (Result Contents Ind
 query_over line files None = database_outcome (query_outcome line) (files_read Hwdb line files)
 query_over line files (Some (Ok contents)) = query_outcome line (entries_in contents) []
 query_over line files (Some (Err fault)) = refused_index fault
-
--- what `verify` says about rules files
-unfoldable pub rules_outcome : Line → List SourceFile → RunOutcome
-rules_outcome line files =
-    if hold_few_tokens (set_of files).rules then said_of line.summary files (reported line.style (set_of files).messages)
-    else too_many_rules
-
--- what `verify` says about the files passed in
-abbrev pub verify_outcome : Line → List SourceFile → RunOutcome
-verify_outcome line files = rules_outcome line (files_read Rules line files)

@@ -6,7 +6,6 @@ ghost use Rattle.text_bytes.specs.Text.{Text};
 ghost use Rattle.text_tables.specs.Texts.{is_among};
 
 use crate::report::Report;
-use file_messages::Message;
 use itoa::Buffer;
 use std::alloc::{AllocError, Global};
 use text_bytes::SourceFile;
@@ -22,11 +21,11 @@ pub trait Named {
         ensures { result.now ≡ name self.now };
 }
 
-impl Named for Message {
-    ghost name = { λ message. message.file };
+impl<'f> Named for &'f [u8] {
+    ghost name = { λ text. text.now };
 
     fn file_name(&self) -> &[u8] {
-        self.file.as_slice()
+        self
     }
 }
 

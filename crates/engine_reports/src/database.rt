@@ -1,13 +1,9 @@
-//! What `query` and `update` say of the database.
+//! What `query` says of the database.
 //!
-//! `query` asks an index where one is passed in; of files it keeps just the entries that the modalias fits. `update`
-//! makes the trie of all entries, as events do, of which the index is written; over such a trie `query -` answers the
-//! modaliases of its input.
-ghost use Rattle.std.specs.Prelude.{◌≡◌, ◌<◌, List, Ok, IfOk, IfErr};
-ghost use Rattle.file_messages.specs.declared.message.Message.{Message};
-ghost use Rattle.hwdb_lookup.specs.declared.entry.Entry.{Entry};
-ghost use Rattle.engine_ends.specs.Delivery.{RunOutcome};
-ghost use Rattle.engine_reports.specs.Outcomes.{database_outcome, query_outcome, query_over, update_outcome, update_status};
+//! `query` asks an index where one is passed in; of files it keeps just the entries that the modalias fits. Over the
+//! trie of all entries `query -` answers the modaliases of its input.
+ghost use Rattle.std.specs.Prelude.{◌≡◌, ◌<◌, Ok, IfOk, IfErr};
+ghost use Rattle.engine_reports.specs.Outcomes.{database_outcome, query_outcome, query_over};
 ghost use Rattle.engine_reports.specs.Databases.{database_of};
 ghost use Rattle.engine_reports.specs.FilesRead.{files_read};
 ghost use Rattle.engine_reports.specs.Messages.{message_lines};
@@ -26,7 +22,6 @@ use index_reading::{Index, IndexFault};
 use std::alloc::{AllocError, Global};
 use text_bytes::{FileKind, SourceFile};
 use trie_build::{Trie, trie_of};
-use trie_core::write_index;
 
 /// What `query` says about the files of the database, or about the index that was opened instead.
 ///
@@ -67,29 +62,8 @@ fn read_answer(
     Ok((PlainDb::new(database.entries), database.messages))
 }
 
-/// The trie of the entries of the files that are read, and the messages about these. The files are
+/// The database of the files that are read, as a trie, and the lines of the messages about these. The files are
 /// returned as soon as their entries are known.
-fn read_database(
-    alloc: Global,
-    line: &Line<'_>,
-    files: Vec<SourceFile>,
-) -> Result<(Trie, Vec<Message>), Refusal>
-    ensures read { IfOk result (λ read. (say : List Entry → List Message → RunOutcome)
-        → say read.0.entries read.1.items ≡ database_outcome say (files_read FileKind.Hwdb line.now files.items)) }
-    ensures refused { IfErr result (λ e. (say : List Entry → List Message → RunOutcome)
-        → IsSaid e (database_outcome say (files_read FileKind.Hwdb line.now files.items))) }
-    ensures database { IfOk result (λ read. database_of (files_read FileKind.Hwdb line.now files.items)
-        ≡ Ok (record { messages = message_lines read.1.items; entries = read.0.entries })) }
-    ensures none { IfErr result (λ e. IsRefused e (database_of (files_read FileKind.Hwdb line.now files.items))) }
-{
-    let files = files_read(alloc, FileKind::Hwdb, line, files)?;
-    let database = read_sources(alloc, &files)?;
-    drop(files);
-    let trie = trie_of(alloc, database.entries)?;
-    Ok((trie, database.messages))
-}
-
-/// The database of the files that are read, as a trie, and the lines of the messages about these.
 ///
 /// `TooManyEntries` comes exactly if the files hold more than a database may, `Memory` if memory runs out.
 pub fn open_database(
@@ -101,8 +75,11 @@ pub fn open_database(
         ≡ Ok (record { messages = read.0.items; entries = read.1.entries })) }
     ensures none { IfErr result (λ e. IsRefused e (database_of (files_read FileKind.Hwdb line.now files.items))) }
 {
-    let (trie, messages) = read_database(alloc, line, files)?;
-    let messages = message_lines(alloc, &messages)?;
+    let files = files_read(alloc, FileKind::Hwdb, line, files)?;
+    let database = read_sources(alloc, &files)?;
+    drop(files);
+    let messages = message_lines(alloc, &database.messages)?;
+    let trie = trie_of(alloc, database.entries)?;
     Ok((messages, trie))
 }
 
@@ -123,44 +100,4 @@ fn answered<L: Lookup>(
         messages,
         status: 0,
     })
-}
-
-/// What `update` says about the files of the database: their entries as an index, messages or not.
-///
-/// `TooManyEntries` comes exactly if the files hold more than a database may, `Memory` if memory runs out.
-pub fn report_on_update(
-    alloc: Global,
-    line: &Line<'_>,
-    files: Vec<SourceFile>,
-) -> Result<Report, Refusal>
-    ensures said { IfOk result (λ r. said r ≡ database_outcome (update_outcome line.now) (files_read FileKind.Hwdb line.now files.items)) }
-    ensures status { IfOk result (λ r. r.status < 3) }
-    ensures refused { IfErr result (λ e. IsSaid e (database_outcome (update_outcome line.now) (files_read FileKind.Hwdb line.now files.items))) }
-{
-    let (trie, messages) = read_database(alloc, line, files)?;
-    Ok(updated(alloc, line, &trie, &messages)?)
-}
-
-/// The index of the entries, and the messages about the files, which make a strict run fail.
-fn updated(
-    alloc: Global,
-    line: &Line<'_>,
-    entries: &Trie,
-    messages: &[Message],
-) -> Result<Report, AllocError>
-    ensures said { IfOk result (λ r. said r ≡ update_outcome line.now entries.now.entries messages.now) }
-    ensures status { IfOk result (λ r. r.status < 3) }
-{
-    Ok(Report {
-        output: write_index(alloc, entries)?,
-        messages: message_lines(alloc, messages)?,
-        status: update_status(line.strict, messages.len()),
-    })
-}
-
-/// The status of `update`: 1 if it is strict and something is reported.
-pub fn update_status(strict: bool, count: usize) -> u8
-    ensures { result ≡ update_status strict count }
-{
-    if strict && count != 0 { 1 } else { 0 }
 }

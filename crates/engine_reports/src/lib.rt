@@ -7,7 +7,6 @@
 #![tactic(auto)]
 
 mod answers;
-mod checks;
 mod counts;
 mod database;
 mod delivery;
@@ -18,12 +17,10 @@ mod messages;
 mod opening;
 mod refusal;
 mod report;
-mod told;
 
 pub use answers::answer_lines;
-pub use checks::report_on_rules;
 pub use counts::{Named, report_on_files};
-pub use database::{open_database, report_on_query, report_on_update, update_status};
+pub use database::{open_database, report_on_query};
 pub use delivery::{deliver_refusal, deliver_report, deliver_usage_error};
 pub use file_choice::files_read;
 pub use indexes::open_index;

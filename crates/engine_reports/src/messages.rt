@@ -1,9 +1,9 @@
 //! Messages as lines.
 //!
 //! The texts are here and not with the kinds of messages, since they are needed only where the lines are written.
-ghost use Rattle.std.specs.Prelude.{◌≡◌, ◌++◌, false, IfOk, OnOk};
+ghost use Rattle.std.specs.Prelude.{◌≡◌, ◌++◌, IfOk, OnOk};
 ghost use Rattle.engine_reports.specs.Messages.{heading_of, message_line, message_lines};
-ghost use Rattle.engine_reports.specs.Checks.{reported};
+ghost use Rattle.engine_reports.specs.Openings.{without_style};
 
 use engine_ends::{push_place, push_word};
 use file_messages::{Message, MessageKind};
@@ -21,12 +21,11 @@ pub(crate) fn message_lines(alloc: Global, messages: &[Message]) -> Result<Vec<u
 }
 
 /// The lines of those messages that are not about style, in the order given.
-#[tactic(auto, unfolding(crate::specs::Checks::reported))]
 pub(crate) fn plain_message_lines(
     alloc: Global,
     messages: &[Message],
 ) -> Result<Vec<u8>, AllocError>
-    ensures { IfOk result (λ text. text.items ≡ message_lines (reported false messages.now)) }
+    ensures { IfOk result (λ text. text.items ≡ message_lines (without_style messages.now)) }
 {
     let mut text = Vec::new(alloc);
     for message in messages {
@@ -38,36 +37,13 @@ pub(crate) fn plain_message_lines(
 }
 
 /// Appends a message's line.
+#[tactic(auto, unfolding(crate::specs::Messages::message_line))]
 fn push_message(alloc: Global, text: &mut Vec<u8>, message: &Message) -> Result<(), AllocError>
     ensures { OnOk result (text.new.items ≡ text.old.items ++ message_line message.now) }
 {
-    let file = message.file.as_slice();
-    push_line(
-        alloc,
-        text,
-        file,
-        message.line,
-        message.kind,
-        message.word.as_slice(),
-    )
-}
-
-/// Appends the line of a message about a line of a file.
-#[tactic(auto, unfolding(crate::specs::Messages::message_line))]
-pub(crate) fn push_line(
-    alloc: Global,
-    text: &mut Vec<u8>,
-    file: &[u8],
-    line: u32,
-    kind: MessageKind,
-    word: &[u8],
-) -> Result<(), AllocError>
-    ensures { OnOk result (text.new.items ≡ text.old.items
-        ++ message_line (record { file = file.now; line = line; kind = kind; word = word.now })) }
-{
-    push_place(alloc, text, file, line)?;
-    text.extend_from_slice(heading(kind))?;
-    push_word(alloc, text, word)?;
+    push_place(alloc, text, message.file.as_slice(), message.line)?;
+    text.extend_from_slice(heading(message.kind))?;
+    push_word(alloc, text, message.word.as_slice())?;
     text.push(b'\n')?;
     Ok(())
 }

@@ -1,5 +1,5 @@
 -- Whether answers that are sent one after another have a byte.
-use Rattle.std.proofs.Common.{◌≡◌, ℕ, zero, suc, ◌+◌, ◌==◌, Bool, true, false, cond, not, ◌||◌, inr, List, [], ◌∷◌, ◌++◌, length, take, ◌≤◌, Ok, Err, ap, ap₂, sym, ◌∙◌, refl, arith, zero-add, length-append}
+use Rattle.std.proofs.Common.{◌≡◌, ℕ, zero, suc, ◌+◌, ◌==◌, Bool, true, false, cond, not, ◌&&◌, ◌||◌, inr, List, [], ◌∷◌, ◌++◌, length, take, ◌≤◌, Ok, Err, ap, ap₂, subst, sym, ◌∙◌, refl, arith, zero-add, length-append}
 use Rattle.std.specs.Option.{option_to_list}
 use Rattle.std.proofs.lemmas.Bool.{ne_eqb}
 use Rattle.std.proofs.lemmas.Grind.{flat_map-append}
@@ -10,13 +10,20 @@ use Rattle.engine_ends.specs.Sinks.{HandsOn, SinkState}
 use Rattle.engine_ends.specs.Sources.{SourceState}
 use Rattle.engine_ends.specs.Streams.{Streams}
 use Rattle.engine_sessions.specs.Sessions.{Held, SessionTakes, opened}
-use Rattle.engine_sessions.specs.Turns.{Sends, TurnFailsBy, Turns, due, joined, say_something}
+use Rattle.engine_sessions.specs.Turns.{Sends, SendsDue, TurnFailsBy, Turns, due, joined, say_something}
 use Rattle.engine_sessions.specs.Inputs.{devices_of, most_turns}
+use Rattle.engine_sessions.specs.Answers.{counted}
+use Rattle.engine_sessions.specs.Outcomes.{tells_none}
+use Rattle.engine_sessions.specs.Serves.{EndsWell}
 use Rattle.engine_sessions.specs.Findings.{AnswersFinding, FindsAll}
+use Rattle.engine_sessions.specs.declared.following.Telling.{Telling}
+use Rattle.engine_sessions.specs.declared.inputs.Findings.{Findings}
 use Rattle.engine_sessions.specs.Holding.{IsGoing, TurnsFinding, TurnsTold}
 use Rattle.engine_sessions.specs.declared.session.Step.{Step}
 use Rattle.engine_sessions.specs.declared.turning.TurnFault.{TurnFault}
 use Rattle.engine_sessions.specs.declared.turning.TurnFault.TheVariants.{Read}
+use Rattle.engine_sessions.proofs.AnswerLemmas.{counted-add}
+use Rattle.engine_sessions.proofs.LawLemmas.{Given}
 use Rattle.engine_sessions.proofs.TurnLemmas.{Sent, at, sent-all, sent-all_texts, sent-more, sent-more_texts, sent-none, sent-none_texts}
 use Rattle.engine_sessions.proofs.ReadPieces.{shown}
 use Rattle.engine_sessions.proofs.Turns.{Served, failed, finished, finished_read, finished_sent, served_at_start, served_at_start_read, served_at_start_sent, served_more, served_more_read, served_more_sent, used_up}
@@ -77,10 +84,25 @@ finding_more answer first session next input now later output sink sink_later tu
       ∙ sym (ap say_something (served_more_sent answer first session next input now later output sink sink_later turns s.served t.turn fits));
 }
 
-pub finding_finished : {A : Type 0} (answer : EventValue → Text) (first session next : Held A) (input now later : SourceState) (output sink sink_later : SinkState) (turns : ℕ) (finds says : Bool)
-    → ServedFinding answer first input now output sink session turns finds → TurnsFinding answer false says (at session now sink) (at next later sink_later) → AnswersFinding answer (Ok (finds || says)) (shown input output) (shown later sink_later)
-finding_finished answer first session next input now later output sink sink_later turns finds says s t = record {
+-- a count is 0 if no block is counted, and only then
+counted_none : (n : ℕ) → (counted n == 0) ≡ (n == 0)
+counted_none zero = refl
+counted_none (suc n) = ne_eqb (counted (suc n)) 0 (λ e. absurd (omega (arith, e))) ∙ sym (ne_eqb (suc n) 0 (λ e. absurd (omega (arith, e))))
+
+-- whether no block is answered, by what the session counted
+none_answered : {A : Type 0} (answer : EventValue → Text) (text : Text) (sent : List Text) (session next : Held A) (more : Bool) (piece : Text) (sink later : SinkState) (g : Given answer text sent session)
+    (s : SendsDue answer more session piece next sink later) → (next.answered == 0) ≡ (length (sent ++ s.texts) == 0)
+none_answered answer text sent session next more piece sink later g s =
+    ap (λ n. n == 0) (ap (λ h. h.answered) s.leaves ∙ ap (λ n. counted (n + length s.texts)) g.answered ∙ counted-add (length sent) (length s.texts))
+    ∙ counted_none (length sent + length s.texts) ∙ ap (λ n. n == 0) (sym (length-append sent s.texts))
+
+pub finding_finished : {A : Type 0} (answer : EventValue → Text) (first session next : Held A) (input now later : SourceState) (output sink sink_later : SinkState) (turns : ℕ) (finds says none : Bool)
+    → ServedFinding answer first input now output sink session turns finds → TurnsFinding answer false says (at session now sink) (at next later sink_later) → none ≡ (next.answered == 0)
+    → AnswersFinding answer (Ok (record { no_block = none; finds = finds || says })) (shown input output) (shown later sink_later)
+finding_finished answer first session next input now later output sink sink_later turns finds says none s t e = record {
   answers = finished answer first session next input now later output sink sink_later turns s.served t.turn;
+  none_is = e ∙ none_answered answer (joined s.served.read) s.served.sent session next false t.turn.piece sink sink_later s.served.given t.turn.sends
+      ∙ sym (ap (λ sent. length sent == 0) (finished_sent answer first session next input now later output sink sink_later turns s.served t.turn));
   finds_is = ap₂ (λ a b. a || b) s.finds_is t.finds_is ∙ sym (something-append s.served.sent t.turn.sends.texts)
       ∙ sym (ap say_something (finished_sent answer first session next input now later output sink sink_later turns s.served t.turn));
 }
@@ -95,21 +117,29 @@ pub finding_more_read : {A : Type 0} (answer : EventValue → Text) (first sessi
 unfolding finding_more
 finding_more_read answer first session next input now later output sink sink_later turns finds says s t fits = served_more_read answer first session next input now later output sink sink_later turns s.served t.turn fits
 
-pub finding_finished_read : {A : Type 0} (answer : EventValue → Text) (first session next : Held A) (input now later : SourceState) (output sink sink_later : SinkState) (turns : ℕ) (finds says : Bool)
-    → (s : ServedFinding answer first input now output sink session turns finds) (t : TurnsFinding answer false says (at session now sink) (at next later sink_later))
-    → (finding_finished answer first session next input now later output sink sink_later turns finds says s t).answers.read ≡ s.served.read ++ t.turn.piece ∷ []
+pub finding_finished_read : {A : Type 0} (answer : EventValue → Text) (first session next : Held A) (input now later : SourceState) (output sink sink_later : SinkState) (turns : ℕ) (finds says none : Bool)
+    → (s : ServedFinding answer first input now output sink session turns finds) (t : TurnsFinding answer false says (at session now sink) (at next later sink_later)) (e : none ≡ (next.answered == 0))
+    → (finding_finished answer first session next input now later output sink sink_later turns finds says none s t e).answers.read ≡ s.served.read ++ t.turn.piece ∷ []
 unfolding finding_finished
-finding_finished_read answer first session next input now later output sink sink_later turns finds says s t = finished_read answer first session next input now later output sink sink_later turns s.served t.turn
+finding_finished_read answer first session next input now later output sink sink_later turns finds says none s t e = finished_read answer first session next input now later output sink sink_later turns s.served t.turn
 
 pub finding_failed : {A : Type 0} (answer : EventValue → Text) (fault : TurnFault) (first session next : Held A) (input now later : SourceState) (output sink sink_later : SinkState) (turns : ℕ) (finds : Bool)
     → ServedFinding answer first input now output sink session turns finds → TurnFailsBy answer fault (at session now sink) (at next later sink_later) → AnswersFinding answer (Err fault) (shown input output) (shown later sink_later)
-finding_failed answer fault first session next input now later output sink sink_later turns finds s f = record { answers = failed answer fault first session next input now later output sink sink_later turns s.served f; finds_is = tt }
+finding_failed answer fault first session next input now later output sink sink_later turns finds s f = record { answers = failed answer fault first session next input now later output sink sink_later turns s.served f; none_is = tt; finds_is = tt }
 
 pub finding_used_up : {A : Type 0} (answer : EventValue → Text) (first session : Held A) (input now : SourceState) (output sink : SinkState) (finds : Bool) → ServedFinding answer first input now output sink session most_turns finds
     → AnswersFinding answer (Err Read) (shown input output) (shown now sink)
-finding_used_up answer first session input now output sink finds s = record { answers = used_up answer first session input now output sink s.served; finds_is = tt }
+finding_used_up answer first session input now output sink finds s = record { answers = used_up answer first session input now output sink s.served; none_is = tt; finds_is = tt }
 
 -- all is answered, and what is found is reported by the status
-pub found_after : (for_people : Bool) (messages : Text) (answer : EventValue → Text) (finds : Bool) (status : ℕ) (before now : Streams) → HandsOn before.err messages now.err → AnswersFinding answer (Ok finds) (devices_of before) (devices_of now) → status ≡ cond finds 1 0
-    → FindsAll for_people messages answer status before now
-found_after for_people messages answer finds status before now h a e = inr (record { after = now.err; says = h; end = Ok tt; answers = a.answers; concludes = (e ∙ ap (λ b. cond b 1 0) a.finds_is, refl) })
+pub found_after : (telling : Telling) (messages : Text) (answer : EventValue → Text) (findings : Findings) (status : ℕ) (before now : Streams) (after : SinkState) → HandsOn before.err messages after
+    → AnswersFinding answer (Ok findings) (devices_of before) (devices_of now) → EndsWell (telling.no_block && findings.no_block) (cond findings.finds 1 0) status after now.err → FindsAll telling messages answer status before now
+found_after telling messages answer findings status before now after h a e =
+    inr (record {
+      after = after;
+      says = h;
+      end = Ok tt;
+      answers = a.answers;
+      concludes = subst (λ wanted. EndsWell (tells_none telling (length a.answers.sent)) wanted status after now.err) (ap (λ b. cond b 1 0) a.finds_is)
+          (subst (λ none. EndsWell (telling.no_block && none) (cond findings.finds 1 0) status after now.err) a.none_is e);
+    })

@@ -1,5 +1,5 @@
 -- What a listener was told over several turns.
-use Rattle.std.proofs.Common.{◌≡◌, ℕ, ◌+◌, ◌≤◌, ◌||◌, Bool, true, false, List, [], ◌∷◌, ◌++◌, length, Ok, Err, refl, ap, sym, ◌∙◌, subst}
+use Rattle.std.proofs.Common.{◌≡◌, ℕ, ◌+◌, ◌≤◌, ◌==◌, ◌||◌, Bool, true, false, List, [], ◌∷◌, ◌++◌, length, Ok, Err, refl, ap, sym, ◌∙◌, subst}
 use Rattle.text_bytes.specs.Text.{Text}
 use Rattle.device_core.specs.Values.{EventValue}
 use Rattle.device_core.specs.RunBlocks.{most_bytes}
@@ -15,7 +15,7 @@ use Rattle.engine_sessions.specs.declared.turning.TurnFault.TheVariants.{Read}
 use Rattle.engine_sessions.proofs.TurnLemmas.{at}
 use Rattle.engine_sessions.proofs.ReadPieces.{joined-push, shown}
 use Rattle.engine_sessions.proofs.FindingLemmas.{ServedFinding, finding_at_start, finding_at_start_read, finding_failed, finding_finished, finding_finished_read, finding_more, finding_more_read, finding_used_up}
-use Rattle.engine_sessions.proofs.Telling.{told_more}
+use Rattle.engine_sessions.proofs.ToldText.{told_more}
 
 -- some turns, and what a listener was told in them
 pub record Heard {A : Type 0} (answer : EventValue → Text) (first : Held A) (input now : SourceState) (output sink : SinkState) (session : Held A) (turns : ℕ) (finds : Bool) (old new : Text → Text) : Type 0 where
@@ -41,12 +41,12 @@ heard_more answer first session next input now later output sink sink_later turn
       (pushed old new newer s.finding.served.read t.finding.turn.piece s.told t.told);
 }
 
-pub heard_finished : {A : Type 0} (answer : EventValue → Text) (first session next : Held A) (input now later : SourceState) (output sink sink_later : SinkState) (turns : ℕ) (finds says : Bool) (old new newer : Text → Text)
-    → Heard answer first input now output sink session turns finds old new → TurnsTold answer (IsTold new newer) false says (at session now sink) (at next later sink_later)
-    → HearsInput answer old newer (Ok (finds || says)) (shown input output) (shown later sink_later)
-heard_finished answer first session next input now later output sink sink_later turns finds says old new newer s t = record {
-  finds = finding_finished answer first session next input now later output sink sink_later turns finds says s.finding t.finding;
-  told = subst (λ read. IsTold old newer (joined read)) (sym (finding_finished_read answer first session next input now later output sink sink_later turns finds says s.finding t.finding))
+pub heard_finished : {A : Type 0} (answer : EventValue → Text) (first session next : Held A) (input now later : SourceState) (output sink sink_later : SinkState) (turns : ℕ) (finds says none : Bool) (old new newer : Text → Text)
+    → Heard answer first input now output sink session turns finds old new → TurnsTold answer (IsTold new newer) false says (at session now sink) (at next later sink_later) → none ≡ (next.answered == 0)
+    → HearsInput answer old newer (Ok (record { no_block = none; finds = finds || says })) (shown input output) (shown later sink_later)
+heard_finished answer first session next input now later output sink sink_later turns finds says none old new newer s t e = record {
+  finds = finding_finished answer first session next input now later output sink sink_later turns finds says none s.finding t.finding e;
+  told = subst (λ read. IsTold old newer (joined read)) (sym (finding_finished_read answer first session next input now later output sink sink_later turns finds says none s.finding t.finding e))
       (pushed old new newer s.finding.served.read t.finding.turn.piece s.told t.told);
 }
 

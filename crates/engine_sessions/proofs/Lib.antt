@@ -11,7 +11,7 @@ pub mod FindingLemmas
 pub mod FindServing
 pub mod Serving
 pub mod Manual
-pub mod Telling
+pub mod ToldText
 pub mod Heard
 pub mod Saying
 pub mod OwnAdvice

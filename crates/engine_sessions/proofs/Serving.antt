@@ -1,5 +1,5 @@
 -- From the steps of a run to what it serves.
-use Rattle.std.proofs.Common.{◌≡◌, ℕ, Bool, ◌+◌, ◌≤◌, ◌<◌, ◌⊎◌, inl, inr, length, take, Option, None, Some, List, [], ◌∷◌, ◌++◌, refl, Result, Ok, Err, length-append, ap, sym, ◌∙◌, subst, arith}
+use Rattle.std.proofs.Common.{◌≡◌, ℕ, Bool, true, false, cond, ◌+◌, ◌≤◌, ◌<◌, ◌⊎◌, inl, inr, length, take, Option, None, Some, List, [], ◌∷◌, ◌++◌, refl, Result, Ok, Err, length-append, ap, sym, ◌∙◌, subst, arith}
 use Rattle.std.proofs.lemmas.Bool.{cases_lt}
 use Rattle.std.proofs.lemmas.List.{append-nil, take-append-le}
 use Rattle.std.proofs.lemmas.Grind.{flat_map-append}
@@ -24,8 +24,9 @@ use Rattle.engine_sessions.proofs.SendLemmas.{hands_after, sends_taken, sends_we
 use Rattle.engine_ends.specs.Delivery.{Delivers, IsWhole, ReportsFailure, RunOutcome, out_of_memory, write_failed}
 use Rattle.engine_sessions.specs.BlockFaults.{block_said}
 use Rattle.engine_sessions.specs.Inputs.{AnswersInput, devices_of}
-use Rattle.engine_sessions.specs.Outcomes.{answered, answered_until, input_outcome}
-use Rattle.engine_sessions.specs.Serves.{read_failed, WritesOut, IsStatusLine, IsCutShort, ReportsFailures, SaysFault, Serves, Concludes, StopsBefore, AnswersAll, Reports}
+use Rattle.engine_sessions.specs.Outcomes.{answered, answered_until, input_outcome, no_block_line, tells_none}
+use Rattle.engine_sessions.specs.Serves.{read_failed, WritesOut, IsStatusLine, IsCutShort, ReportsFailures, SaysFault, Serves, Concludes, EndsWell, StopsBefore, AnswersAll, Reports}
+use Rattle.engine_sessions.specs.declared.following.Telling.{Telling}
 
 pub not_four : (status : ℕ) {P : Type 0} → status ≡ 3 → status ≡ 4 → P
 not_four status e f = absurd (omega (arith, e, f))
@@ -117,17 +118,23 @@ reports_serve outcome said status before now same r = record {
 }
 
 -- messages are the first of what is reported
-opening_first : (for_people : Bool) (messages : Text) (output : Text) (count : ℕ) (fault : Option BlockFault) (err after : SinkState) → after.taken ≡ followed_by err.taken messages → HasBegun err (answered_until for_people messages output count fault).messages after
-opening_first for_people messages output count None err after e = begun-taken err after messages e
-opening_first for_people messages output count (Some fault) err after e = begun-first err after messages (block_said for_people (number_after count) fault) (begun-taken err after messages e)
+pub none_first : (none : Bool) (messages : Text) (err after : SinkState) → HasBegun err messages after → HasBegun err (cond none (messages ++ no_block_line) messages) after
+none_first true messages err after b = begun-first err after messages no_block_line b
+none_first false messages err after b = b
 
--- the outcome, if the answers are known
-pub outcome_well : (for_people : Bool) (messages : Text) (answer : EventValue → Text) (text : Text) (sent : List Text) → answers_of answer text ≡ well sent → input_outcome for_people messages answer text ≡ record { output = joined sent; messages = messages; status = 0 }
-outcome_well for_people messages answer text sent e = ap (answered for_people messages) e
+opening_first : (telling : Telling) (messages : Text) (output : Text) (count : ℕ) (fault : Option BlockFault) (err after : SinkState) → HasBegun err messages after → HasBegun err (answered_until telling messages output count fault).messages after
+opening_first telling messages output count None err after b = none_first (tells_none telling count) messages err after b
+opening_first telling messages output count (Some fault) err after b = begun-first err after messages (block_said telling.for_people (number_after count) fault) b
 
-outcome_faulty : (for_people : Bool) (messages : Text) (answer : EventValue → Text) (text : Text) (sent : List Text) (number : ℕ) (fault : BlockFault) → answers_of answer text ≡ until sent fault → number ≡ number_after (length sent)
-    → input_outcome for_people messages answer text ≡ record { output = joined sent; messages = messages ++ block_said for_people number fault; status = 1 }
-outcome_faulty for_people messages answer text sent number fault e n = ap (answered for_people messages) e ∙ ap (λ k. record { output = joined sent; messages = messages ++ block_said for_people k fault; status = 1 }) (sym n)
+-- the outcome, if the answers are known, by whether it is told that there are none
+pub outcome_well : (telling : Telling) (messages : Text) (answer : EventValue → Text) (text : Text) (sent : List Text) (none : Bool) → answers_of answer text ≡ well sent → tells_none telling (length sent) ≡ none
+    → input_outcome telling messages answer text ≡ record { output = joined sent; messages = cond none (messages ++ no_block_line) messages; status = 0 }
+outcome_well telling messages answer text sent none e is =
+    ap (answered telling messages) e ∙ ap (λ b. record { output = joined sent; messages = cond b (messages ++ no_block_line) messages; status = 0 }) is
+
+outcome_faulty : (telling : Telling) (messages : Text) (answer : EventValue → Text) (text : Text) (sent : List Text) (number : ℕ) (fault : BlockFault) → answers_of answer text ≡ until sent fault → number ≡ number_after (length sent)
+    → input_outcome telling messages answer text ≡ record { output = joined sent; messages = messages ++ block_said telling.for_people number fault; status = 1 }
+outcome_faulty telling messages answer text sent number fault e n = ap (answered telling messages) e ∙ ap (λ k. record { output = joined sent; messages = messages ++ block_said telling.for_people k fault; status = 1 }) (sym n)
 
 -- a text that is reported, by what was read of it and what is left
 pub rest_reported : (text first : Text) (left : Option Text) → Some text ≡ led_by first left → (rest : Text) × (left ≡ Some rest) × (text ≡ first ++ rest)
@@ -149,9 +156,9 @@ sends_output out after out_now [] s e = inr (refl, e ∙ s)
 sends_output out after out_now (text ∷ sent) s e = inl (subst (λ sink. HandsOn out (joined (text ∷ sent)) sink) (sym e) s)
 
 -- the output, whatever the fault
-output_is : (for_people : Bool) (messages output : Text) (count : ℕ) (fault : Option BlockFault) → (answered_until for_people messages output count fault).output ≡ output
-output_is for_people messages output count None = refl
-output_is for_people messages output count (Some fault) = refl
+output_is : (telling : Telling) (messages output : Text) (count : ℕ) (fault : Option BlockFault) → (answered_until telling messages output count fault).output ≡ output
+output_is telling messages output count None = refl
+output_is telling messages output count (Some fault) = refl
 
 -- the answers sent are the first of all
 sent_begun : (out after out_now : SinkState) (sent : List Text) (unsent : List Text) (texts : List Text) → texts ≡ sent ++ unsent → Sends out sent after → HasBegun after (joined unsent) out_now → HasBegun out (joined texts) out_now
@@ -161,38 +168,78 @@ sent_begun out after out_now sent unsent texts e s b =
 read_first : (answer : EventValue → Text) (text : Text) (sent : List Text) → answers_to answer (complete_runs text) ≡ well sent → (answers_of answer text).texts ≡ sent ++ (answers_to answer (not_empty (rest_of text ∷ []))).texts
 read_first answer text sent e = ap (λ a. a.texts) (answers_to-append answer (complete_runs text) (not_empty (rest_of text ∷ [])) sent e)
 
-module _ (for_people : Bool) (messages : Text) (answer : EventValue → Text) (status : ℕ) (before now : Streams) (after : SinkState) (says : HandsOn before.err messages after) where
-  first_reported : (text : Text) → HasBegun before.err (input_outcome for_people messages answer text).messages after
-  first_reported text = opening_first for_people messages (joined (answers_of answer text).texts) (length (answers_of answer text).texts) (answers_of answer text).fault before.err after says.taken
+module _ (telling : Telling) (messages : Text) (answer : EventValue → Text) (status : ℕ) (before now : Streams) (after : SinkState) (says : HandsOn before.err messages after) where
+  first_reported : (text : Text) → HasBegun before.err (input_outcome telling messages answer text).messages after
+  first_reported text = opening_first telling messages (joined (answers_of answer text).texts) (length (answers_of answer text).texts) (answers_of answer text).fault before.err after (begun-taken before.err after messages says.taken)
 
-  output_begun : (text : Text) → HasBegun before.out (joined (answers_of answer text).texts) now.out → HasBegun before.out (input_outcome for_people messages answer text).output now.out
-  output_begun text b = subst (λ o. HasBegun before.out o now.out) (sym (output_is for_people messages (joined (answers_of answer text).texts) (length (answers_of answer text).texts) (answers_of answer text).fault)) b
+  output_begun : (text : Text) → HasBegun before.out (joined (answers_of answer text).texts) now.out → HasBegun before.out (input_outcome telling messages answer text).output now.out
+  output_begun text b = subst (λ o. HasBegun before.out o now.out) (sym (output_is telling messages (joined (answers_of answer text).texts) (length (answers_of answer text).texts) (answers_of answer text).fault)) b
 
-  served_well : (t : AnswersInput answer (Ok tt) (devices_of before) (devices_of now)) → Concludes for_people 0 (Ok tt) status after now.err → Serves (input_outcome for_people messages answer) status before now
-  served_well t c =
-      let is = outcome_well for_people messages answer (joined t.read) t.sent t.ends.answers in
-      record {
-        read = t.read;
-        pieces = t.pieces;
-        whole = λ h. subst (λ o. IsWhole WritesOut o status (outputs before) (outputs now)) (sym is)
-            (record { output = sends_output before.out t.after now.out t.sent t.sends t.ends.untouched; messages = rw c.1 says; status_is = c.0 });
-        all = λ h text e. let r = rest_reported text (joined t.read) now.input.left (sym e ∙ t.left) in
-            ap (input_outcome for_people messages answer) (r.2 ∙ ap (λ rest. joined t.read ++ rest) (none_is now.input.left r.0 t.ends.none_left r.1) ∙ append-nil (joined t.read));
-        cut = λ h. absurd (omega (arith, h, c.0));
-        failures = record {
-          failed = λ e. absurd (omega (arith, e, c.0));
-          well = λ h. (t.counts.well, ap (λ s. s.faults) t.ends.untouched ∙ sends_well before.out t.after t.sent t.sends, ap (λ s. s.faults) c.1 ∙ says.well);
-        };
-        statuses = omega (arith, c.0);
-      }
+  -- all is answered, and it is told that there is no block
+  pub served_none : (outcome : Text → RunOutcome) (output : Text) (read : List Text) → now.input.pieces ≡ followed_by before.input.pieces read → before.input.left ≡ led_by (joined read) now.input.left → NoneLeft now.input.left
+      → now.input.faults ≡ before.input.faults → WritesOut before.out output now.out → now.out.taken ≡ followed_by before.out.taken output → now.out.faults ≡ before.out.faults
+      → outcome (joined read) ≡ record { output = output; messages = messages ++ no_block_line; status = 0 } → ReportsFailure no_block_line 0 status after now.err → Serves outcome status before now
+  served_none outcome output read pieces left none_left input_well written taken well is (inl p) = record {
+    read = read;
+    pieces = pieces;
+    whole = λ h. subst (λ o. IsWhole WritesOut o status (outputs before) (outputs now)) (sym is)
+        (record { output = written; messages = hands_after before.err after now.err messages no_block_line says p.1; status_is = p.0 });
+    all = λ h text e. let r = rest_reported text (joined read) now.input.left (sym e ∙ left) in
+        ap outcome (r.2 ∙ ap (λ rest. joined read ++ rest) (none_is now.input.left r.0 none_left r.1) ∙ append-nil (joined read));
+    cut = λ h. absurd (omega (arith, h, p.0));
+    failures = record {
+      failed = λ e. absurd (omega (arith, e, p.0));
+      well = λ h. (input_well, well, p.1.well ∙ says.well);
+    };
+    statuses = omega (arith, p.0);
+  }
+  served_none outcome output read pieces left none_left input_well written taken well is (inr p) = record {
+    read = read;
+    pieces = pieces;
+    whole = not_under status (omega (arith, p.0));
+    all = not_under status (omega (arith, p.0));
+    cut = λ h. subst (λ o. IsCutShort o status before now) (sym is)
+        (cut_by (record { output = output; messages = messages ++ no_block_line; status = 0 }) status before now now.err [] (inl refl)
+        (begun-taken before.out now.out output taken) (begun-following before.err after now.err messages no_block_line says.taken p.1.taken) (begun-none now.err []) (not_four status p.0));
+    failures = record {
+      failed = λ g. inr (inr (inl (subst (λ n. Counts 1 n now.err.faults) says.well p.1.failed)));
+      well = λ h. absurd (h p.0);
+    };
+    statuses = omega (arith, p.0);
+  }
 
-  served_read : (t : AnswersInput answer (Err Read) (devices_of before) (devices_of now)) → SaysFault for_people Read status after now.err → status ≡ 3 → Serves (input_outcome for_people messages answer) status before now
+  served_well : (t : AnswersInput answer (Ok tt) (devices_of before) (devices_of now)) → Concludes telling t.sent 0 (Ok tt) status after now.err → Serves (input_outcome telling messages answer) status before now
+  served_well t c = by (tells_none telling (length t.sent)) refl c
+    where
+      by : (none : Bool) → tells_none telling (length t.sent) ≡ none → EndsWell none 0 status after now.err → Serves (input_outcome telling messages answer) status before now
+      by true e c =
+          served_none (input_outcome telling messages answer) (joined t.sent) t.read t.pieces t.left t.ends.none_left t.counts.well (sends_output before.out t.after now.out t.sent t.sends t.ends.untouched)
+          (ap (λ s. s.taken) t.ends.untouched ∙ sends_taken before.out t.after t.sent t.sends) (ap (λ s. s.faults) t.ends.untouched ∙ sends_well before.out t.after t.sent t.sends)
+          (outcome_well telling messages answer (joined t.read) t.sent true t.ends.answers e) c
+      by false e c =
+          let is = outcome_well telling messages answer (joined t.read) t.sent false t.ends.answers e in
+          record {
+            read = t.read;
+            pieces = t.pieces;
+            whole = λ h. subst (λ o. IsWhole WritesOut o status (outputs before) (outputs now)) (sym is)
+                (record { output = sends_output before.out t.after now.out t.sent t.sends t.ends.untouched; messages = rw c.1 says; status_is = c.0 });
+            all = λ h text e. let r = rest_reported text (joined t.read) now.input.left (sym e ∙ t.left) in
+                ap (input_outcome telling messages answer) (r.2 ∙ ap (λ rest. joined t.read ++ rest) (none_is now.input.left r.0 t.ends.none_left r.1) ∙ append-nil (joined t.read));
+            cut = λ h. absurd (omega (arith, h, c.0));
+            failures = record {
+              failed = λ e. absurd (omega (arith, e, c.0));
+              well = λ h. (t.counts.well, ap (λ s. s.faults) t.ends.untouched ∙ sends_well before.out t.after t.sent t.sends, ap (λ s. s.faults) c.1 ∙ says.well);
+            };
+            statuses = omega (arith, c.0);
+          }
+
+  served_read : (t : AnswersInput answer (Err Read) (devices_of before) (devices_of now)) → SaysFault telling.for_people Read status after now.err → status ≡ 3 → Serves (input_outcome telling messages answer) status before now
   served_read t c e = record {
     read = t.read;
     pieces = t.pieces;
     whole = not_under status (omega (arith, e));
     all = not_under status (omega (arith, e));
-    cut = λ h. cut_by (input_outcome for_people messages answer (joined t.read)) status before now after read_failed (inr (inl refl))
+    cut = λ h. cut_by (input_outcome telling messages answer (joined t.read)) status before now after read_failed (inr (inl refl))
         (output_begun (joined t.read) (sent_begun before.out t.after now.out t.sent _ (answers_of answer (joined t.read)).texts (read_first answer (joined t.read) t.sent t.ends.0) t.sends (rw t.ends.1 (begun-none t.after _))))
         (first_reported (joined t.read)) (reports_begun read_failed 3 status after now.err c) (not_four status e);
     failures = record {
@@ -202,13 +249,13 @@ module _ (for_people : Bool) (messages : Text) (answer : EventValue → Text) (s
     statuses = omega (arith, e);
   }
 
-  served_write : (t : AnswersInput answer (Err Write) (devices_of before) (devices_of now)) → SaysFault for_people Write status after now.err → status ≡ 3 → Serves (input_outcome for_people messages answer) status before now
+  served_write : (t : AnswersInput answer (Err Write) (devices_of before) (devices_of now)) → SaysFault telling.for_people Write status after now.err → status ≡ 3 → Serves (input_outcome telling messages answer) status before now
   served_write t c e = record {
     read = t.read;
     pieces = t.pieces;
     whole = not_under status (omega (arith, e));
     all = not_under status (omega (arith, e));
-    cut = λ h. cut_by (input_outcome for_people messages answer (joined t.read)) status before now after write_failed (inr (inr (inl refl)))
+    cut = λ h. cut_by (input_outcome telling messages answer (joined t.read)) status before now after write_failed (inr (inr (inl refl)))
         (output_begun (joined t.read) (sent_begun before.out t.after now.out t.sent (t.ends.next ∷ t.ends.unsent) (answers_of answer (joined t.read)).texts t.ends.texts_are t.sends (begun-first t.after now.out t.ends.next (joined t.ends.unsent) t.ends.breaks.taken)))
         (first_reported (joined t.read)) (reports_begun write_failed 3 status after now.err c) (not_four status e);
     failures = record {
@@ -218,13 +265,13 @@ module _ (for_people : Bool) (messages : Text) (answer : EventValue → Text) (s
     statuses = omega (arith, e);
   }
 
-  served_memory : (t : AnswersInput answer (Err (Session Memory)) (devices_of before) (devices_of now)) → SaysFault for_people (Session Memory) status after now.err → Serves (input_outcome for_people messages answer) status before now
+  served_memory : (t : AnswersInput answer (Err (Session Memory)) (devices_of before) (devices_of now)) → SaysFault telling.for_people (Session Memory) status after now.err → Serves (input_outcome telling messages answer) status before now
   served_memory t c = record {
     read = t.read;
     pieces = t.pieces;
     whole = not_under status (memory_status status after now.err c);
     all = not_under status (memory_status status after now.err c);
-    cut = λ h. cut_by (input_outcome for_people messages answer (joined t.read)) status before now after out_of_memory (inr (inr (inr refl)))
+    cut = λ h. cut_by (input_outcome telling messages answer (joined t.read)) status before now after out_of_memory (inr (inr (inr refl)))
         (output_begun (joined t.read) (sent_begun before.out t.after now.out t.sent t.ends.0.0 (answers_of answer (joined t.read)).texts t.ends.0.1 t.sends (rw t.ends.1 (begun-none t.after (joined t.ends.0.0)))))
         (first_reported (joined t.read)) (reports_begun out_of_memory 4 status after now.err c) (at_memory status after now.err c);
     failures = reported_failures c t.counts.well (ap (λ s. s.faults) t.ends.1 ∙ sends_well before.out t.after t.sent t.sends);
@@ -235,16 +282,16 @@ module _ (for_people : Bool) (messages : Text) (answer : EventValue → Text) (s
       reported_failures (inl p) e f = record { failed = λ g. not_four status g p.0; well = λ h. (e, f, p.1.well ∙ says.well) }
       reported_failures (inr p) e f = record { failed = λ g. inr (inr (inl (subst (λ n. Counts 1 n now.err.faults) says.well p.1.failed))); well = λ h. absurd (h p.0) }
 
-  served_block : (number : ℕ) (fault : BlockFault) (t : AnswersInput answer (Err (Session (Block number fault))) (devices_of before) (devices_of now)) → SaysFault for_people (Session (Block number fault)) status after now.err → Serves (input_outcome for_people messages answer) status before now
+  served_block : (number : ℕ) (fault : BlockFault) (t : AnswersInput answer (Err (Session (Block number fault))) (devices_of before) (devices_of now)) → SaysFault telling.for_people (Session (Block number fault)) status after now.err → Serves (input_outcome telling messages answer) status before now
   served_block number fault t (inl p) =
-      let is = outcome_faulty for_people messages answer (joined t.read) t.sent number fault t.ends.0.answers t.ends.0.numbered in
+      let is = outcome_faulty telling messages answer (joined t.read) t.sent number fault t.ends.0.answers t.ends.0.numbered in
       record {
         read = t.read;
         pieces = t.pieces;
         whole = λ h. subst (λ o. IsWhole WritesOut o status (outputs before) (outputs now)) (sym is)
-            (record { output = sends_output before.out t.after now.out t.sent t.sends t.ends.1; messages = hands_after before.err after now.err messages (block_said for_people number fault) says p.1; status_is = p.0 });
+            (record { output = sends_output before.out t.after now.out t.sent t.sends t.ends.1; messages = hands_after before.err after now.err messages (block_said telling.for_people number fault) says p.1; status_is = p.0 });
         all = λ h text e. let r = rest_reported text (joined t.read) now.input.left (sym e ∙ t.left) in
-            ap (input_outcome for_people messages answer) r.2 ∙ outcome_faulty for_people messages answer (joined t.read ++ r.0) t.sent number fault (t.ends.0.stays r.0 r.1) t.ends.0.numbered ∙ sym is;
+            ap (input_outcome telling messages answer) r.2 ∙ outcome_faulty telling messages answer (joined t.read ++ r.0) t.sent number fault (t.ends.0.stays r.0 r.1) t.ends.0.numbered ∙ sym is;
         cut = λ h. absurd (omega (arith, h, p.0));
         failures = record {
           failed = λ e. absurd (omega (arith, e, p.0));
@@ -253,15 +300,15 @@ module _ (for_people : Bool) (messages : Text) (answer : EventValue → Text) (s
         statuses = omega (arith, p.0);
       }
   served_block number fault t (inr p) =
-      let is = outcome_faulty for_people messages answer (joined t.read) t.sent number fault t.ends.0.answers t.ends.0.numbered in
+      let is = outcome_faulty telling messages answer (joined t.read) t.sent number fault t.ends.0.answers t.ends.0.numbered in
       record {
         read = t.read;
         pieces = t.pieces;
         whole = not_under status (omega (arith, p.0));
         all = not_under status (omega (arith, p.0));
         cut = λ h. subst (λ o. IsCutShort o status before now) (sym is)
-            (cut_by (record { output = joined t.sent; messages = messages ++ block_said for_people number fault; status = 1 }) status before now now.err [] (inl refl)
-            (begun-taken before.out now.out (joined t.sent) (ap (λ s. s.taken) t.ends.1 ∙ sends_taken before.out t.after t.sent t.sends)) (begun-following before.err after now.err messages (block_said for_people number fault) says.taken p.1.taken) (begun-none now.err []) (not_four status p.0));
+            (cut_by (record { output = joined t.sent; messages = messages ++ block_said telling.for_people number fault; status = 1 }) status before now now.err [] (inl refl)
+            (begun-taken before.out now.out (joined t.sent) (ap (λ s. s.taken) t.ends.1 ∙ sends_taken before.out t.after t.sent t.sends)) (begun-following before.err after now.err messages (block_said telling.for_people number fault) says.taken p.1.taken) (begun-none now.err []) (not_four status p.0));
         failures = record {
           failed = λ g. inr (inr (inl (subst (λ n. Counts 1 n now.err.faults) says.well p.1.failed)));
           well = λ h. absurd (h p.0);
@@ -273,7 +320,7 @@ module _ (for_people : Bool) (messages : Text) (answer : EventValue → Text) (s
   three line (inl p) = p.0
   three line (inr p) = p.0
 
-  served_after : (end : Result (Unit {0}) TurnFault) → AnswersInput answer end (devices_of before) (devices_of now) → Concludes for_people 0 end status after now.err → Serves (input_outcome for_people messages answer) status before now
+  served_after : (end : Result (Unit {0}) TurnFault) → (t : AnswersInput answer end (devices_of before) (devices_of now)) → Concludes telling t.sent 0 end status after now.err → Serves (input_outcome telling messages answer) status before now
   served_after (Ok done) t c = served_well t c
   served_after (Err Read) t c = served_read t c (three read_failed c)
   served_after (Err Write) t c = served_write t c (three write_failed c)
@@ -282,9 +329,9 @@ module _ (for_people : Bool) (messages : Text) (answer : EventValue → Text) (s
   served_after (Err (Session Ended)) t c = absurd t.ends
 
 -- nothing was read or answered
-served_before : (for_people : Bool) (messages : Text) (answer : EventValue → Text) (status : ℕ) (before now : Streams) → StopsBefore messages status before now
-    → Serves (input_outcome for_people messages answer) status before now
-served_before for_people messages answer status before now s = record {
+served_before : (telling : Telling) (messages : Text) (answer : EventValue → Text) (status : ℕ) (before now : Streams) → StopsBefore messages status before now
+    → Serves (input_outcome telling messages answer) status before now
+served_before telling messages answer status before now s = record {
   read = [];
   pieces = ap (λ x. x.pieces) s.unread ∙ sym (followed_by-nil before.input.pieces);
   whole = not_under status (least s.reports);
@@ -302,9 +349,11 @@ served_before for_people messages answer status before now s = record {
     most (inl p) = omega (arith, p.0)
     most (inr p) = memory_most status before.err now.err p
 
-    cuts : ((status ≡ 3) × BreaksOff before.err messages now.err) ⊎ ReportsFailure out_of_memory 4 status before.err now.err → IsCutShort (input_outcome for_people messages answer []) status before now
-    cuts (inl p) = messages_cut (input_outcome for_people messages answer []) status before now s.unanswered p.0 p.1.taken
-    cuts (inr p) = refused_cut (input_outcome for_people messages answer []) status before now s.unanswered p
+    cuts : ((status ≡ 3) × BreaksOff before.err messages now.err) ⊎ ReportsFailure out_of_memory 4 status before.err now.err → IsCutShort (input_outcome telling messages answer []) status before now
+    cuts (inl p) =
+        messages_cut (input_outcome telling messages answer []) status before now s.unanswered p.0
+        (opening_first telling messages (joined (answers_of answer []).texts) (length (answers_of answer []).texts) (answers_of answer []).fault before.err now.err p.1.taken)
+    cuts (inr p) = refused_cut (input_outcome telling messages answer []) status before now s.unanswered p
 
     fails : ((status ≡ 3) × BreaksOff before.err messages now.err) ⊎ ReportsFailure out_of_memory 4 status before.err now.err → ReportsFailures status 0 before now
     fails (inl p) = record { failed = λ e. inr (inr (inl p.1.failed)); well = λ h. absurd (h p.0) }
@@ -312,7 +361,7 @@ served_before for_people messages answer status before now s = record {
     fails (inr (inr p)) = record { failed = λ e. inr (inr (inl p.1.failed)); well = λ h. absurd (h p.0) }
 
 -- from the steps of `events` to what it serves
-pub answers_serve : (for_people : Bool) (messages : Text) (answer : EventValue → Text) (status : ℕ) (before now : Streams) → AnswersAll for_people messages answer status before now
-    → Serves (input_outcome for_people messages answer) status before now
-answers_serve for_people messages answer status before now (inl s) = served_before for_people messages answer status before now s
-answers_serve for_people messages answer status before now (inr b) = served_after for_people messages answer status before now b.after b.says b.end b.answers b.concludes
+pub answers_serve : (telling : Telling) (messages : Text) (answer : EventValue → Text) (status : ℕ) (before now : Streams) → AnswersAll telling messages answer status before now
+    → Serves (input_outcome telling messages answer) status before now
+answers_serve telling messages answer status before now (inl s) = served_before telling messages answer status before now s
+answers_serve telling messages answer status before now (inr b) = served_after telling messages answer status before now b.after b.says b.end b.answers b.concludes

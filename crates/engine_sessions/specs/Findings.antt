@@ -1,4 +1,4 @@
--- The outcome of an input whose answers are findings: whether any answer that was sent has a byte, and the status for
+-- The outcome of an input whose answers are findings: whether none was sent, whether any that was sent has a byte, and the status for
 -- that.
 use Rattle.std.specs.Prelude.{◌≡◌, ℕ, ◌⊎◌, ◌==◌, Bool, if◌then◌else◌, List, Result, Ok, Err, IfOk, length}
 use Rattle.text_bytes.specs.Text.{Text}
@@ -8,17 +8,20 @@ use Rattle.engine_ends.specs.Delivery.{RunOutcome}
 use Rattle.engine_sessions.specs.Turns.{say_something}
 use Rattle.engine_sessions.specs.Inputs.{AnswersInput, Devices}
 use Rattle.engine_sessions.specs.Serves.{AnswersAfter, StopsBefore}
+use Rattle.engine_sessions.specs.declared.following.Telling.{Telling}
+use Rattle.engine_sessions.specs.declared.inputs.Findings.{Findings}
 use Rattle.engine_sessions.specs.declared.turning.TurnFault.{TurnFault}
 
 -- how it ended, whatever was found
-abbrev pub ended_by : Result Bool TurnFault → Result (Unit {0}) TurnFault
-ended_by (Ok finds) = Ok tt
+abbrev pub ended_by : Result Findings TurnFault → Result (Unit {0}) TurnFault
+ended_by (Ok findings) = Ok tt
 ended_by (Err fault) = Err fault
 
--- An input is answered, and if all of it is, whether any answer has a byte.
-pub record AnswersFinding (answer : EventValue → Text) (end : Result Bool TurnFault) (before now : Devices) : Type 0 where
+-- An input is answered, and if all of it is, whether there is no answer, and whether any has a byte.
+pub record AnswersFinding (answer : EventValue → Text) (end : Result Findings TurnFault) (before now : Devices) : Type 0 where
   pub answers : AnswersInput answer (ended_by end) before now
-  pub finds_is : IfOk end (λ finds. finds ≡ say_something answers.sent)
+  pub none_is : IfOk end (λ findings. findings.no_block ≡ (length answers.sent == 0))
+  pub finds_is : IfOk end (λ findings. findings.finds ≡ say_something answers.sent)
 
 -- an outcome whose output is a finding: its status is 1 if there is any output
 abbrev pub found : RunOutcome → RunOutcome
@@ -29,6 +32,6 @@ abbrev pub status_found : List Text → ℕ
 status_found sent = if say_something sent then 1 else 0
 
 -- Messages, and the findings in an input after them, step by step.
-abbrev pub FindsAll : (for_people : Bool) → Text → (EventValue → Text) → ℕ → Streams → Streams → Type 0
-FindsAll for_people messages answer status before now =
-    StopsBefore messages status before now ⊎ AnswersAfter for_people status_found messages answer status before now
+abbrev pub FindsAll : Telling → Text → (EventValue → Text) → ℕ → Streams → Streams → Type 0
+FindsAll telling messages answer status before now =
+    StopsBefore messages status before now ⊎ AnswersAfter telling status_found messages answer status before now

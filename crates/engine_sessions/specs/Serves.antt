@@ -1,5 +1,5 @@
 -- What a run reads, writes and returns, by its status and step by step.
-use Rattle.std.specs.Prelude.{◌≡◌, ℕ, ◌<◌, ◌≤◌, ◌⊎◌, Bool, List, [], ◌++◌, Some, Result, Ok, Err, codes, length}
+use Rattle.std.specs.Prelude.{◌≡◌, ℕ, ◌<◌, ◌≤◌, ◌⊎◌, Bool, true, false, List, [], ◌++◌, Some, Result, Ok, Err, codes, length}
 use Rattle.text_bytes.specs.Text.{Text}
 use Rattle.device_core.specs.Values.{EventValue}
 use Rattle.engine_ends.specs.Reported.{followed_by}
@@ -7,6 +7,8 @@ use Rattle.engine_ends.specs.Counts.{Counts}
 use Rattle.engine_ends.specs.Sinks.{BreaksOff, HandsOn, HasBegun, SinkState}
 use Rattle.engine_ends.specs.Streams.{Streams, outputs}
 use Rattle.engine_sessions.specs.Turns.{joined}
+use Rattle.engine_sessions.specs.Outcomes.{no_block_line, tells_none}
+use Rattle.engine_sessions.specs.declared.following.Telling.{Telling}
 use Rattle.engine_sessions.specs.declared.session.SessionFault.TheVariants.{Block, Memory, Ended}
 use Rattle.engine_sessions.specs.declared.turning.TurnFault.{TurnFault}
 use Rattle.engine_sessions.specs.declared.turning.TurnFault.TheVariants.{Read, Write, Session}
@@ -72,20 +74,25 @@ abbrev pub SaysFault : (for_people : Bool) → TurnFault → ℕ → SinkState �
 SaysFault for_people fault status err err_now =
     ReportsFailure (fault_said for_people fault).0 (fault_said for_people fault).1 status err err_now
 
--- How a run ends after its input: if all is answered, nothing is said and the status is that for what was sent; otherwise the fault is said.
-abbrev pub Concludes : (for_people : Bool) → (for_sent : ℕ) → Result (Unit {0}) TurnFault → ℕ → SinkState → SinkState → Type 0
-Concludes for_people for_sent (Ok done) status err err_now = (status ≡ for_sent) × (err_now ≡ err)
-Concludes for_people for_sent (Err fault) status err err_now = SaysFault for_people fault status err err_now
+-- How a run ends whose input is answered: with this status, after the line that the input has no block, if that is told.
+abbrev pub EndsWell : (none : Bool) → (wanted : ℕ) → ℕ → SinkState → SinkState → Type 0
+EndsWell true wanted status err err_now = ReportsFailure no_block_line wanted status err err_now
+EndsWell false wanted status err err_now = (status ≡ wanted) × (err_now ≡ err)
+
+-- How a run ends after its input, by the answers sent: if all is answered, with the status that is for them; otherwise the fault is said.
+abbrev pub Concludes : Telling → (sent : List Text) → (for_sent : ℕ) → Result (Unit {0}) TurnFault → ℕ → SinkState → SinkState → Type 0
+Concludes telling sent for_sent (Ok done) status err err_now = EndsWell (tells_none telling (length sent)) for_sent status err err_now
+Concludes telling sent for_sent (Err fault) status err err_now = SaysFault telling.for_people fault status err err_now
 
 -- The messages are written, then the input is answered, and then the run ends: if all is answered, with the status that is for the
 -- answers sent.
-pub record AnswersAfter (for_people : Bool) (status_for : List Text → ℕ) (messages : Text) (answer : EventValue → Text) (status : ℕ)
+pub record AnswersAfter (telling : Telling) (status_for : List Text → ℕ) (messages : Text) (answer : EventValue → Text) (status : ℕ)
     (before now : Streams) : Type 0 where
   pub after : SinkState
   pub says : HandsOn before.err messages after
   pub end : Result (Unit {0}) TurnFault
   pub answers : AnswersInput answer end (devices_of before) (devices_of now)
-  pub concludes : Concludes for_people (status_for answers.sent) end status after now.err
+  pub concludes : Concludes telling answers.sent (status_for answers.sent) end status after now.err
 
 -- Nothing is read or answered: the error output failed at the messages, or memory runs out before them, which its
 -- line says.
@@ -95,9 +102,9 @@ pub record StopsBefore (messages : Text) (status : ℕ) (before now : Streams) :
   pub reports : ((status ≡ 3) × BreaksOff before.err messages now.err) ⊎ ReportsFailure out_of_memory 4 status before.err now.err
 
 -- Messages, and the answers to an input after them, step by step.
-abbrev pub AnswersAll : (for_people : Bool) → Text → (EventValue → Text) → ℕ → Streams → Streams → Type 0
-AnswersAll for_people messages answer status before now =
-    StopsBefore messages status before now ⊎ AnswersAfter for_people (λ sent. 0) messages answer status before now
+abbrev pub AnswersAll : Telling → Text → (EventValue → Text) → ℕ → Streams → Streams → Type 0
+AnswersAll telling messages answer status before now =
+    StopsBefore messages status before now ⊎ AnswersAfter telling (λ sent. 0) messages answer status before now
 
 -- What is said about files is delivered, and no input is read.
 pub record Reports (outcome : RunOutcome) (status : ℕ) (before now : Streams) : Type 0 where

@@ -17,8 +17,8 @@ mod turning;
 
 pub use advice_laws::{advice_follows_the_line, each_fault_has_its_own_advice};
 pub use answering::Answering;
-pub use following::{answer_after_messages, find_after_messages};
-pub use inputs::answer_input;
+pub use following::{Telling, answer_after_messages, find_after_messages};
+pub use inputs::{Findings, answer_input};
 pub use laws::{
     answers_do_not_depend_on_the_pieces, answers_end_at_the_first_fault, known_answers_stay,
     the_manual_changes_no_event,

@@ -2,7 +2,7 @@
 //!
 //! The splitter keeps the only bytes that wait, in memory that it allocated once; a block is read and answered
 //! where it is, and only the answer is passed out.
-ghost use Rattle.std.specs.Prelude.{◌≡◌, ◌≤◌, ◌+◌, true, false, [], IfOk, IfErr, length, Ok, Err, ◌++◌};
+ghost use Rattle.std.specs.Prelude.{◌≡◌, ◌==◌, ◌≤◌, ◌+◌, true, false, [], IfOk, IfErr, length, Ok, Err, ◌++◌};
 ghost use Rattle.device_core.specs.RunBlocks.{most_bytes};
 ghost use Rattle.device_core.specs.Faults.{block_gives};
 ghost use Rattle.engine_sessions.specs.Known.{known_blocks};
@@ -160,6 +160,13 @@ impl<'a, A: Answering> Session<'a, A> {
         ensures gone { self.now.ended ≡ true → self.now.pending ≡ [] }
     {
         self.ended
+    }
+
+    /// Whether the session has answered no block.
+    pub(crate) fn has_answered_none(&self) -> bool
+        ensures { result ≡ (self.now.answered == 0) }
+    {
+        self.answered == 0
     }
 
     /// Ends the session without an answer to what is pending.

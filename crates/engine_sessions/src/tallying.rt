@@ -1,12 +1,12 @@
 //! Messages, the answers to an input after them, and what is said about all of its events.
-ghost use Rattle.std.specs.Prelude.{◌≡◌, ◌++◌, [], Err};
+ghost use Rattle.std.specs.Prelude.{◌≡◌, ◌&&◌, ◌++◌, [], Err};
 ghost use Rattle.engine_sessions.specs.Outcomes.{input_outcome};
 ghost use Rattle.engine_sessions.specs.Sessions.{answer_of, asked_by};
 ghost use Rattle.engine_sessions.specs.Serves.{Serves};
 ghost use Rattle.engine_sessions.specs.Tallies.{events_of, SaysAll, SaysLast, with_said};
 
 use crate::answering::Answering;
-use crate::following::conclude;
+use crate::following::{Telling, conclude, end_well};
 use crate::hearing::Hearing;
 use crate::inputs::answer_heard;
 use crate::listening::Tally;
@@ -24,7 +24,7 @@ const WRITE_FAILED: &[u8] = b"devdry: write failed\n";
 pub fn answer_and_tally<A: Answering, T: Tally + Drop, R: Source, W: Sink, E: Sink>(
     alloc: Global,
     profile: Profile,
-    for_people: bool,
+    telling: Telling,
     messages: &[u8],
     answering: &A,
     tally: T,
@@ -33,16 +33,16 @@ pub fn answer_and_tally<A: Answering, T: Tally + Drop, R: Source, W: Sink, E: Si
     error: &mut E,
 ) -> u8
     ensures serves { Serves (λ text. with_said (T.says tally (events_of profile text))
-        (input_outcome for_people messages.now (answer_of A.answers (asked_by profile answering.now)) text)) result
+        (input_outcome telling messages.now (answer_of A.answers (asked_by profile answering.now)) text)) result
         (record { input = R.shown input.old; out = W.shown output.old; err = E.shown error.old })
         (record { input = R.shown input.new; out = W.shown output.new; err = E.shown error.new }) }
-    ensures steps { SaysAll for_people messages.now (answer_of A.answers (asked_by profile answering.now))
+    ensures steps { SaysAll telling messages.now (answer_of A.answers (asked_by profile answering.now))
         (λ text. T.says tally (events_of profile text)) result
         (record { input = R.shown input.old; out = W.shown output.old; err = E.shown error.old })
         (record { input = R.shown input.new; out = W.shown output.new; err = E.shown error.new }) }
 {
     tally_in_steps(
-        alloc, profile, for_people, messages, answering, tally, input, output, error,
+        alloc, profile, telling, messages, answering, tally, input, output, error,
     )
 }
 
@@ -50,7 +50,7 @@ pub fn answer_and_tally<A: Answering, T: Tally + Drop, R: Source, W: Sink, E: Si
 fn tally_in_steps<A: Answering, T: Tally + Drop, R: Source, W: Sink, E: Sink>(
     alloc: Global,
     profile: Profile,
-    for_people: bool,
+    telling: Telling,
     messages: &[u8],
     answering: &A,
     tally: T,
@@ -58,7 +58,7 @@ fn tally_in_steps<A: Answering, T: Tally + Drop, R: Source, W: Sink, E: Sink>(
     output: &mut W,
     error: &mut E,
 ) -> u8
-    ensures { SaysAll for_people messages.now (answer_of A.answers (asked_by profile answering.now)) (λ text. T.says tally (events_of profile text)) result
+    ensures { SaysAll telling messages.now (answer_of A.answers (asked_by profile answering.now)) (λ text. T.says tally (events_of profile text)) result
         (record { input = R.shown input.old; out = W.shown output.old; err = E.shown error.old })
         (record { input = R.shown input.new; out = W.shown output.new; err = E.shown error.new }) }
 {
@@ -66,7 +66,7 @@ fn tally_in_steps<A: Answering, T: Tally + Drop, R: Source, W: Sink, E: Sink>(
         Ok(mut hearing) => tally_heard(
             alloc,
             profile,
-            for_people,
+            telling,
             messages,
             answering,
             &mut hearing,
@@ -82,7 +82,7 @@ fn tally_in_steps<A: Answering, T: Tally + Drop, R: Source, W: Sink, E: Sink>(
 fn tally_heard<A: Answering, T: Tally + Drop, R: Source, W: Sink, E: Sink>(
     alloc: Global,
     profile: Profile,
-    for_people: bool,
+    telling: Telling,
     messages: &[u8],
     answering: &A,
     hearing: &mut Hearing<T>,
@@ -90,7 +90,7 @@ fn tally_heard<A: Answering, T: Tally + Drop, R: Source, W: Sink, E: Sink>(
     output: &mut W,
     error: &mut E,
 ) -> u8
-    ensures { SaysAll for_people messages.now (answer_of A.answers (asked_by profile answering.now))
+    ensures { SaysAll telling messages.now (answer_of A.answers (asked_by profile answering.now))
         (λ text. T.says hearing.old.tally (events_of hearing.old.profile (hearing.old.splitter.pending ++ text))) result
         (record { input = R.shown input.old; out = W.shown output.old; err = E.shown error.old })
         (record { input = R.shown input.new; out = W.shown output.new; err = E.shown error.new }) }
@@ -99,24 +99,27 @@ fn tally_heard<A: Answering, T: Tally + Drop, R: Source, W: Sink, E: Sink>(
         return 3;
     }
     match answer_heard(alloc, profile, answering, hearing, input, output) {
-        Ok(_) => say_last(alloc, hearing, output, error),
-        Err(fault) => conclude(for_people, fault, error),
+        Ok(found) => say_last(alloc, telling, found.no_block, hearing, output, error),
+        Err(fault) => conclude(telling.for_people, fault, error),
     }
 }
 
-/// Writes what the tally says at the input's end, and returns the status to exit with.
+/// Writes what the tally says at the input's end, tells that there is no block if that is so and asked for, and returns the status to
+/// exit with.
 fn say_last<T: Tally + Drop, W: Sink, E: Sink>(
     alloc: Global,
+    telling: Telling,
+    no_block: bool,
     hearing: &mut Hearing<T>,
     output: &mut W,
     error: &mut E,
 ) -> u8
-    ensures { SaysLast (T.says hearing.old.tally (events_of hearing.old.profile (hearing.old.splitter.pending ++ []))) result
+    ensures { SaysLast (telling.no_block && no_block) (T.says hearing.old.tally (events_of hearing.old.profile (hearing.old.splitter.pending ++ []))) result
         (W.shown output.old) (W.shown output.new) (E.shown error.old) (E.shown error.new) }
 {
     match hearing.end(alloc) {
         Ok(text) => match hand_on(output, text.as_slice()) {
-            Ok(()) => 0,
+            Ok(()) => end_well(telling, no_block, 0, error),
             Err(DeviceFault) => report_failure(error, WRITE_FAILED, 3),
         },
         Err(_) => report_out_of_memory(error),

@@ -1,4 +1,4 @@
--- How many the notes are that assignments leave on attributes that are not read, and what they weigh.
+-- How many the notes are that searches and assignments leave on attributes that are not read, and what they weigh.
 use Rattle.std.proofs.Common.{◌≡◌, ℕ, ◌+◌, ◌≤◌, Bool, true, false, cond, List, [], ◌∷◌, ◌++◌, length, Option, Some, None, is_some, option_map, codes, refl, arith}
 use Rattle.std.specs.Option.{option_and_then, option_or}
 use Rattle.std.proofs.lemmas.List.{length-append}
@@ -9,6 +9,7 @@ use Rattle.text_bytes.specs.declared.profile.Profile.TheVariants.{Manual, Udev}
 use Rattle.text_bytes.specs.Text.{Text}
 use Rattle.text_tables.specs.Pairs.{value_of}
 use Rattle.rule_types.specs.declared.part.Assignment.{Assignment}
+use Rattle.rule_types.specs.declared.part.UpMatch.{UpMatch}
 use Rattle.rule_types.specs.Rules.{Rule}
 use Rattle.device_core.specs.Values.{EventValue}
 use Rattle.builtin_knowledge.specs.Knowledge.{Known}
@@ -18,25 +19,27 @@ use Rattle.eval_state.specs.declared.note_kind.NoteKind.{NoteKind}
 use Rattle.eval_state.specs.declared.note_kind.NoteKind.TheVariants.{AttributeNotRead}
 use Rattle.eval_state.specs.declared.notes.Note.{Note}
 use Rattle.eval_state.specs.declared.scene.Scene.{Scene}
+use Rattle.eval_state.specs.declared.state.State.{State}
+use Rattle.eval_matching.specs.Subjects.{found_place}
 use Rattle.eval_acts.specs.Unread.{unread_notes}
 use Rattle.eval_assignments.specs.Modes.{four_digits}
 use Rattle.eval_assignments.specs.Steps.{set_step}
 use Rattle.eval_rules.specs.Idle.{is_idle}
 use Rattle.eval_rules.specs.Jumps.{is_passed, sought_after}
 use Rattle.eval_rules.specs.Outcomes.{outcome}
-use Rattle.eval_rules.specs.Steps.{Went, apply, before_sets}
+use Rattle.eval_rules.specs.Steps.{Went, apply, before_sets, plain_step, walk}
 use Rattle.eval_rules.specs.declared.outcome.Outcome.{Outcome}
 use Rattle.eval_unread.specs.KernelModes.{kernel_mode, with_kernel_mode, written_mode}
-use Rattle.eval_unread.specs.Unread.{rule_unread, rules_unread, unread, unread_after, unread_by, unread_from, unread_of, whole_outcome, with_notes}
+use Rattle.eval_unread.specs.Unread.{rule_unread, rules_unread, search_unread, searched_unread, unread, unread_after, unread_at, unread_by, unread_place, unread_from, unread_of, whole_outcome, with_notes}
 use Rattle.eval_laws.specs.Counts.{most_notes, most_told}
 use Rattle.eval_laws.specs.DeviceWeights.{given_weight}
 use Rattle.eval_laws.specs.Weights.{note_weight, outcome_weight}
 use Rattle.eval_laws.proofs.Counted.{notes_counted}
 
 module _ (w : Note → ℕ) (c : Rule → ℕ) (light : (r : Rule) (kind : NoteKind) (text : Text) → w (note_about r kind text) ≤ c r) where
-  -- at most one note for each assignment
+  -- at most one note for each match of one device, and for each assignment
   abbrev pub most_unread : Rule → ℕ
-  most_unread r = sum_by (λ (a : Assignment). c r) r.sets
+  most_unread r = sum_by (λ (part : UpMatch). c r) r.up + sum_by (λ (a : Assignment). c r) r.sets
 
   one_light : (r : Rule) (o : Option Text) → sum_by w (unread_notes r o) ≤ c r
   one_light r None = omega arith
@@ -51,18 +54,41 @@ module _ (w : Note → ℕ) (c : Rule → ℕ) (light : (r : Rule) (kind : NoteK
       let all = sum_by-cons (λ (b : Assignment). c r) a sets in
       omega (arith, one, more, both, all)
 
+  searched_light : (r : Rule) (parts : List UpMatch) (state : State) → sum_by w (unread_notes r (search_unread parts state)) ≤ sum_by (λ (part : UpMatch). c r) parts
+  searched_light r [] state = by (is_some (found_place [] state)) (unread_place [] state)
+    where
+      by : (b : Bool) (found : Option ℕ) → sum_by w (unread_notes r (cond b None (option_and_then (unread_at [] state) found))) ≤ sum_by (λ (part : UpMatch). c r) []
+      by true found = omega arith
+      by false None = omega arith
+      by false (Some place) = omega arith
+  searched_light r (part ∷ parts) state =
+      let one = one_light r (search_unread (part ∷ parts) state) in
+      let all = sum_by-cons (λ (other : UpMatch). c r) part parts in
+      omega (arith, one, all)
+
   rule_light : (known : Known) (r : Rule) (s : Scene) → sum_by w (rule_unread known r s) ≤ most_unread r
   unfolding rule_unread
-  rule_light known r s = by (is_idle r s.state.event)
+  rule_light known r s =
+      let searched = by_search (walk (plain_step r) r.plain s) in
+      let sets = by (is_idle r s.state.event) in
+      let both = sum_by-append w (searched_unread r (walk (plain_step r) r.plain s)) (cond (is_idle r s.state.event) [] (unread_after r (before_sets known r s))) in
+      omega (arith, searched, sets, both)
     where
-      after : (went : Went) → sum_by w (unread_after r went) ≤ most_unread r
+      by_search : (went : Went) → sum_by w (searched_unread r went) ≤ sum_by (λ (part : UpMatch). c r) r.up
+      by_search went = on went.1
+        where
+          on : (b : Bool) → sum_by w (cond b (unread_notes r (search_unread r.up went.0.state)) []) ≤ sum_by (λ (part : UpMatch). c r) r.up
+          on true = searched_light r r.up went.0.state
+          on false = omega arith
+
+      after : (went : Went) → sum_by w (unread_after r went) ≤ sum_by (λ (a : Assignment). c r) r.sets
       after went = on went.1
         where
-          on : (b : Bool) → sum_by w (cond b (unread_from r r.sets went.0) []) ≤ most_unread r
+          on : (b : Bool) → sum_by w (cond b (unread_from r r.sets went.0) []) ≤ sum_by (λ (a : Assignment). c r) r.sets
           on true = sets_light r r.sets went.0
           on false = omega arith
 
-      by : (b : Bool) → sum_by w (cond b [] (unread_after r (before_sets known r s))) ≤ most_unread r
+      by : (b : Bool) → sum_by w (cond b [] (unread_after r (before_sets known r s))) ≤ sum_by (λ (a : Assignment). c r) r.sets
       by true = omega arith
       by false = after (before_sets known r s)
 
@@ -124,16 +150,18 @@ ones : {X : Type 0} (xs : List X) → sum_by (λ (x : X). 1) xs ≡ length xs
 ones [] = refl
 ones (x ∷ xs) = let a = sum_by-cons (λ y. 1) x xs in let b = ones xs in omega (arith, a, b)
 
--- a note for each assignment beside those of the outcome
-told_more : (rules : List Rule) → sum_by most_notes rules + sum_by (λ (r : Rule). sum_by (λ (a : Assignment). 1) r.sets) rules ≤ sum_by most_told rules
+-- a note for each match of one device and each assignment, beside those of the outcome
+told_more : (rules : List Rule)
+    → sum_by most_notes rules + sum_by (λ (r : Rule). sum_by (λ (part : UpMatch). 1) r.up + sum_by (λ (a : Assignment). 1) r.sets) rules ≤ sum_by most_told rules
 told_more [] = omega arith
 told_more (r ∷ rs) =
     let rest = told_more rs in
+    let up = ones r.up in
     let sets = ones r.sets in
     let own = sum_by-cons most_notes r rs in
-    let more = sum_by-cons (λ (q : Rule). sum_by (λ (a : Assignment). 1) q.sets) r rs in
+    let more = sum_by-cons (λ (q : Rule). sum_by (λ (part : UpMatch). 1) q.up + sum_by (λ (a : Assignment). 1) q.sets) r rs in
     let all = sum_by-cons most_told r rs in
-    omega (arith, rest, sets, own, more, all)
+    omega (arith, rest, up, sets, own, more, all)
 
 pub told_counted : (rules : List Rule) (known : Known) (event : EventValue) → length (whole_outcome rules known event).notes ≤ sum_by most_told rules
 told_counted rules known event =

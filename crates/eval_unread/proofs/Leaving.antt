@@ -1,4 +1,4 @@
--- Which assignment leaves a note: first in a text, then in a rule, then in all rules.
+-- Which search and which assignment leaves a note: first in a text, then in a rule, then in all rules.
 use Rattle.std.proofs.Common.{◌≡◌, ◌⊎◌, inl, inr, Bool, true, false, cond, ◌&&◌, is_none, List, [], ◌∷◌, ◌++◌, Option, Some, None, fold, refl, ap, subst, sym, ◌∙◌}
 use Rattle.std.specs.List.{list_all}
 use Rattle.std.specs.Option.{option_or}
@@ -19,9 +19,9 @@ use Rattle.eval_assignments.specs.Finality.{final_key, is_settled}
 use Rattle.eval_assignments.specs.Steps.{set_step}
 use Rattle.eval_rules.specs.Idle.{is_idle}
 use Rattle.eval_rules.specs.Jumps.{is_passed, run, sought_after}
-use Rattle.eval_rules.specs.Steps.{apply, before_sets}
-use Rattle.eval_unread.specs.Laws.{AsksFirst, IsAmong, Leaves, sought_past}
-use Rattle.eval_unread.specs.Unread.{rendered_pieces, rule_unread, rules_unread, unread_after, unread_from, unread_of}
+use Rattle.eval_rules.specs.Steps.{Went, apply, before_sets, plain_step, walk}
+use Rattle.eval_unread.specs.Laws.{AsksFirst, IsAmong, Leaves, SearchLeaves, SetLeaves, sought_past}
+use Rattle.eval_unread.specs.Unread.{rendered_pieces, rule_unread, rules_unread, search_unread, searched_unread, unread_after, unread_from, unread_of}
 use Rattle.eval_unread.proofs.Among.{among_either, among_first, among_none, among_one, among_second}
 
 module _ (event : EventValue) where
@@ -103,7 +103,7 @@ module _ (note : Note) (r : Rule) where
       subst (λ (l : Option Text). IsAmong note (unread_notes r l)) (sym e) (record { before = []; following = []; are = ap (λ (n : Note). n ∷ []) (sym is) })
 
   -- one of these assignments leaves the note
-  record SetLeaves (sets : List Assignment) (s : Scene) : Type 0 where
+  record OneLeaves (sets : List Assignment) (s : Scene) : Type 0 where
     before : List Assignment
     assignment : Assignment
     after : List Assignment
@@ -112,12 +112,12 @@ module _ (note : Note) (r : Rule) where
     asks : Asks (fold (set_step r) s before) assignment name
     is : note ≡ note_about r AttributeNotRead name
 
-  sets_left : (sets : List Assignment) (s : Scene) → IsAmong note (unread_from r sets s) → SetLeaves sets s
+  sets_left : (sets : List Assignment) (s : Scene) → IsAmong note (unread_from r sets s) → OneLeaves sets s
   sets_left [] s h = absurd (among_none note h)
   sets_left (a ∷ sets) s h = by (among_either note (unread_notes r (unread_of s a)) (unread_from r sets (set_step r s a)) h) (λ more. sets_left sets (set_step r s a) more)
     where
       by : IsAmong note (unread_notes r (unread_of s a)) ⊎ IsAmong note (unread_from r sets (set_step r s a))
-          → (IsAmong note (unread_from r sets (set_step r s a)) → SetLeaves sets (set_step r s a)) → SetLeaves (a ∷ sets) s
+          → (IsAmong note (unread_from r sets (set_step r s a)) → OneLeaves sets (set_step r s a)) → OneLeaves (a ∷ sets) s
       by (inl own) later =
           let found = only_note (unread_of s a) own in
           record { before = []; assignment = a; after = sets; are = refl; name = found.0; asks = asks_here s a found.0 found.1; is = found.2 }
@@ -141,27 +141,77 @@ module _ (note : Note) (r : Rule) where
       among_second note (unread_notes r (unread_of s b)) (unread_from r (before ++ a ∷ after) (set_step r s b)) (set_leaves before a after name (set_step r s b) asks is)
 
   module _ (known : Known) (s : Scene) where
-    rule_left : IsAmong note (rule_unread known r s) → (is_idle r s.state.event ≡ false) × ((before_sets known r s).1 ≡ true) × SetLeaves r.sets (before_sets known r s).0
-    unfolding rule_unread
-    rule_left h = by (is_idle r s.state.event) refl h
-      where
-        Left : Type 0
-        Left = (is_idle r s.state.event ≡ false) × ((before_sets known r s).1 ≡ true) × SetLeaves r.sets (before_sets known r s).0
+    matched : Went
+    matched = walk (plain_step r) r.plain s
 
-        after : is_idle r s.state.event ≡ false → (b : Bool) → (before_sets known r s).1 ≡ b → IsAmong note (cond b (unread_from r r.sets (before_sets known r s).0) []) → Left
-        after e true f h = (e, f, sets_left r.sets (before_sets known r s).0 h)
+    abbrev after_keys : List Note
+    after_keys = cond (is_idle r s.state.event) [] (unread_after r (before_sets known r s))
+
+    search_left : IsAmong note (searched_unread r matched) → SearchLeaves r s note
+    unfolding matched
+    search_left h = by matched.1 refl h
+      where
+        by : (b : Bool) → matched.1 ≡ b → IsAmong note (cond b (unread_notes r (search_unread r.up matched.0.state)) []) → SearchLeaves r s note
+        by true e h =
+            let found = only_note (search_unread r.up matched.0.state) h in
+            record { goes_on = e; name = found.0; asks = found.1; is = found.2 }
+        by false e h = absurd (among_none note h)
+
+    keys_left : IsAmong note after_keys → SetLeaves known r s note
+    keys_left h = by (is_idle r s.state.event) refl h
+      where
+        after : is_idle r s.state.event ≡ false → (b : Bool) → (before_sets known r s).1 ≡ b → IsAmong note (cond b (unread_from r r.sets (before_sets known r s).0) []) → SetLeaves known r s note
+        after e true f h =
+            let one = sets_left r.sets (before_sets known r s).0 h in
+            record {
+              counts = e;
+              goes_on = f;
+              before = one.before;
+              assignment = one.assignment;
+              after = one.after;
+              are = one.are;
+              scene = fold (set_step r) (before_sets known r s).0 one.before;
+              found = refl;
+              made = one.asks.0;
+              name = one.name;
+              asks = one.asks.1;
+              is = one.is;
+            }
         after e false f h = absurd (among_none note h)
 
-        by : (b : Bool) → is_idle r s.state.event ≡ b → IsAmong note (cond b [] (unread_after r (before_sets known r s))) → Left
+        by : (b : Bool) → is_idle r s.state.event ≡ b → IsAmong note (cond b [] (unread_after r (before_sets known r s))) → SetLeaves known r s note
         by true e h = absurd (among_none note h)
         by false e h = after e (before_sets known r s).1 refl h
 
-    rule_leaves : is_idle r s.state.event ≡ false → (before_sets known r s).1 ≡ true → IsAmong note (unread_from r r.sets (before_sets known r s).0) → IsAmong note (rule_unread known r s)
-    unfolding rule_unread
-    rule_leaves e f h =
-        let counts : rule_unread known r s ≡ unread_after r (before_sets known r s) = ap (λ (b : Bool). cond b [] (unread_after r (before_sets known r s))) e in
-        let goes : unread_after r (before_sets known r s) ≡ unread_from r r.sets (before_sets known r s).0 = ap (λ (b : Bool). cond b (unread_from r r.sets (before_sets known r s).0) []) f in
-        subst (IsAmong note) (sym (counts ∙ goes)) h
+    rule_left : IsAmong note (rule_unread known r s) → SearchLeaves r s note ⊎ SetLeaves known r s note
+    unfolding rule_unread matched
+    rule_left h = by (among_either note (searched_unread r matched) after_keys h)
+      where
+        by : IsAmong note (searched_unread r matched) ⊎ IsAmong note after_keys → SearchLeaves r s note ⊎ SetLeaves known r s note
+        by (inl search) = inl (search_left search)
+        by (inr keys) = inr (keys_left keys)
+
+    search_leaves : SearchLeaves r s note → IsAmong note (searched_unread r matched)
+    unfolding matched
+    search_leaves h =
+        subst (IsAmong note) (sym (ap (λ (b : Bool). cond b (unread_notes r (search_unread r.up matched.0.state)) []) h.goes_on))
+        (note_is_only (search_unread r.up matched.0.state) h.name h.asks h.is)
+
+    keys_leave : SetLeaves known r s note → IsAmong note after_keys
+    keys_leave h =
+        let entered : Scene = (before_sets known r s).0 in
+        let asks : Asks h.scene h.assignment h.name = (h.made, h.asks) in
+        let asked : Asks (fold (set_step r) entered h.before) h.assignment h.name = subst (λ (u : Scene). Asks u h.assignment h.name) h.found asks in
+        let some : IsAmong note (unread_from r (h.before ++ h.assignment ∷ h.after) entered) = set_leaves h.before h.assignment h.after h.name entered asked h.is in
+        let own : IsAmong note (unread_from r r.sets entered) = subst (λ (l : List Assignment). IsAmong note (unread_from r l entered)) (sym h.are) some in
+        let counts : after_keys ≡ unread_after r (before_sets known r s) = ap (λ (b : Bool). cond b [] (unread_after r (before_sets known r s))) h.counts in
+        let goes : unread_after r (before_sets known r s) ≡ unread_from r r.sets entered = ap (λ (b : Bool). cond b (unread_from r r.sets entered) []) h.goes_on in
+        subst (IsAmong note) (sym (counts ∙ goes)) own
+
+    rule_leaves : SearchLeaves r s note ⊎ SetLeaves known r s note → IsAmong note (rule_unread known r s)
+    unfolding rule_unread matched
+    rule_leaves (inl search) = among_first note (searched_unread r matched) after_keys (search_leaves search)
+    rule_leaves (inr set) = among_second note (searched_unread r matched) after_keys (keys_leave set)
 
 module _ (note : Note) (known : Known) where
   -- what rules below one leave, all of them leave
@@ -169,57 +219,25 @@ module _ (note : Note) (known : Known) where
       → ((above : List Rule) → sought_past known sought (r ∷ above) s ≡ sought_past known wanted above t) → ((above : List Rule) → run known sought (r ∷ above) s ≡ run known wanted above t)
       → Leaves known wanted rs t note → Leaves known sought (r ∷ rs) s note
   below_leaves r rs sought s wanted t labels scenes h =
-      let way = h.reached in
-      let same = scenes way.above in
+      let way = h.enters in
       record {
         rule = h.rule;
-        assignment = h.assignment;
         scene = h.scene;
-        reached = record {
+        enters = record {
           above = r ∷ way.above;
           below = way.below;
           are = ap (λ (l : List Rule). r ∷ l) way.are;
           entered = ap (λ (l : Option Text). is_passed l h.rule) (labels way.above) ∙ way.entered;
-          counts = ap (λ (u : Scene). is_idle h.rule u.state.event) same ∙ way.counts;
-          goes_on = ap (λ (u : Scene). (before_sets known h.rule u).1) same ∙ way.goes_on;
-          before = way.before;
-          after = way.after;
-          sets_are = way.sets_are;
-          found = way.found ∙ sym (ap (λ (u : Scene). fold (set_step h.rule) (before_sets known h.rule u).0 way.before) same);
+          found = way.found ∙ sym (scenes way.above);
         };
-        made = h.made;
-        name = h.name;
-        asks = h.asks;
-        is = h.is;
+        leaves = h.leaves;
       }
 
   -- what a rule leaves that is not passed over, all leave
   own_leaves : (r : Rule) (rs : List Rule) (sought : Option Text) (s : Scene) → is_passed sought r ≡ false → IsAmong note (rule_unread known r s) → Leaves known sought (r ∷ rs) s note
   unfolding sought_past run
   own_leaves r rs sought s entered h =
-      let own = rule_left note r known s h in
-      let one = own.2 in
-      record {
-        rule = r;
-        assignment = one.assignment;
-        scene = fold (set_step r) (before_sets known r s).0 one.before;
-        reached = record {
-          above = [];
-          below = rs;
-          are = refl;
-          entered = entered;
-          counts = own.0;
-          goes_on = own.1;
-          before = one.before;
-          after = one.after;
-          sets_are = one.are;
-          found = refl;
-        };
-        made = one.asks.0;
-        name = one.name;
-        asks = one.asks.1;
-        is = one.is;
-      }
+      record { rule = r; scene = s; enters = record { above = []; below = rs; are = refl; entered = entered; found = refl }; leaves = rule_left note r known s h }
 
   pub left : (sought : Option Text) (rules : List Rule) (s : Scene) → IsAmong note (rules_unread known sought rules s) → Leaves known sought rules s note
   unfolding rules_unread sought_past run
@@ -279,12 +297,7 @@ module _ (note : Note) (known : Known) where
 
   pub leaves : (sought : Option Text) (rules : List Rule) (s : Scene) → Leaves known sought rules s note → IsAmong note (rules_unread known sought rules s)
   leaves sought rules s h =
-      let way = h.reached in
-      let r : Rule = h.rule in
-      let entered : Scene = (before_sets known r (run known sought way.above s)).0 in
-      let asks : Asks h.scene h.assignment h.name = (h.made, h.asks) in
-      let asked : Asks (fold (set_step r) entered way.before) h.assignment h.name = subst (λ (u : Scene). Asks u h.assignment h.name) way.found asks in
-      let some : IsAmong note (unread_from r (way.before ++ h.assignment ∷ way.after) entered) = set_leaves note r way.before h.assignment way.after h.name entered asked h.is in
-      let own : IsAmong note (unread_from r r.sets entered) = subst (λ (l : List Assignment). IsAmong note (unread_from r l entered)) (sym way.sets_are) some in
-      let rule : IsAmong note (rule_unread known r (run known sought way.above s)) = rule_leaves note r known (run known sought way.above s) way.counts way.goes_on own in
-      subst (λ (l : List Rule). IsAmong note (rules_unread known sought l s)) (sym way.are) (down r way.below way.above sought s (way.entered, rule))
+      let way = h.enters in
+      let own : IsAmong note (rule_unread known h.rule (run known sought way.above s)) =
+      subst (λ (t : Scene). IsAmong note (rule_unread known h.rule t)) way.found (rule_leaves note h.rule known h.scene h.leaves) in
+      subst (λ (l : List Rule). IsAmong note (rules_unread known sought l s)) (sym way.are) (down h.rule way.below way.above sought s (way.entered, own))

@@ -1,5 +1,5 @@
--- Serves laws alone: which assignment leaves a note, said without a walk over rules.
-use Rattle.std.specs.Prelude.{◌≡◌, true, false, if◌then◌else◌, is_none, List, [], ◌∷◌, ◌++◌, Option, fold}
+-- Serves laws alone: which search and which assignment leaves a note, said without a walk over rules.
+use Rattle.std.specs.Prelude.{◌≡◌, ◌⊎◌, true, false, if◌then◌else◌, is_none, List, [], ◌∷◌, ◌++◌, Option, Some, fold}
 use Rattle.std.specs.List.{list_all}
 use Rattle.text_bytes.specs.Text.{Text}
 use Rattle.rule_templates.specs.declared.piece.Piece.{Piece}
@@ -18,8 +18,8 @@ use Rattle.eval_assignments.specs.Finality.{final_key, is_settled}
 use Rattle.eval_assignments.specs.Steps.{set_step}
 use Rattle.eval_rules.specs.Idle.{is_idle}
 use Rattle.eval_rules.specs.Jumps.{is_passed, run, sought_after}
-use Rattle.eval_rules.specs.Steps.{apply, before_sets}
-use Rattle.eval_unread.specs.Unread.{rendered_pieces}
+use Rattle.eval_rules.specs.Steps.{apply, before_sets, plain_step, walk}
+use Rattle.eval_unread.specs.Unread.{rendered_pieces, search_unread}
 
 -- a note is among these
 pub record IsAmong (note : Note) (notes : List Note) : Type 0 where
@@ -41,28 +41,40 @@ pub record AsksFirst (event : EventValue) (pieces : List Piece) (name : Text) : 
   pub read : list_all (λ p. is_none (unread_in event p)) before ≡ true
   pub unread : is_not_read name event ≡ true
 
--- One of rules comes to one of its assignments, which finds this scene: no label is sought there other than its own, it is not
--- skipped, its keys let it go on, and its assignments before this one are made.
-pub record Reaches (known : Known) (sought : Option Text) (rules : List Rule) (s : Scene) (r : Rule) (a : Assignment) (t : Scene) : Type 0 where
+-- One of rules is entered with this scene: no label is sought there other than its own.
+pub record Enters (known : Known) (sought : Option Text) (rules : List Rule) (s : Scene) (r : Rule) (t : Scene) : Type 0 where
   pub above : List Rule
   pub below : List Rule
   pub are : rules ≡ above ++ r ∷ below
   pub entered : is_passed (sought_past known sought above s) r ≡ false
-  pub counts : is_idle r (run known sought above s).state.event ≡ false
-  pub goes_on : (before_sets known r (run known sought above s)).1 ≡ true
-  pub before : List Assignment
-  pub after : List Assignment
-  pub sets_are : r.sets ≡ before ++ a ∷ after
-  pub found : t ≡ fold (set_step r) (before_sets known r (run known sought above s)).0 before
+  pub found : t ≡ run known sought above s
 
--- An assignment that is reached leaves this note: its key is not final, and the text that is rendered for it asks for an attribute
--- that is not read.
-pub record Leaves (known : Known) (sought : Option Text) (rules : List Rule) (s : Scene) (note : Note) : Type 0 where
-  pub rule : Rule
+-- The search of a rule leaves this note: the matches of the event let the rule go on to it, and it finds no device and asks for what is not read.
+pub record SearchLeaves (r : Rule) (s : Scene) (note : Note) : Type 0 where
+  pub goes_on : (walk (plain_step r) r.plain s).1 ≡ true
+  pub name : Text
+  pub asks : search_unread r.up (walk (plain_step r) r.plain s).0.state ≡ Some name
+  pub is : note ≡ note_about r AttributeNotRead name
+
+-- An assignment of a rule leaves this note: the rule is not skipped, its keys let it go on, and its assignments before this one are made;
+-- the key of this one is not final, and the text that is rendered for it asks for an attribute that is not read.
+pub record SetLeaves (known : Known) (r : Rule) (s : Scene) (note : Note) : Type 0 where
+  pub counts : is_idle r s.state.event ≡ false
+  pub goes_on : (before_sets known r s).1 ≡ true
+  pub before : List Assignment
   pub assignment : Assignment
+  pub after : List Assignment
+  pub are : r.sets ≡ before ++ assignment ∷ after
   pub scene : Scene
-  pub reached : Reaches known sought rules s rule assignment scene
+  pub found : scene ≡ fold (set_step r) (before_sets known r s).0 before
   pub made : is_settled (final_key scene.state.event.profile assignment.change) scene.finals ≡ false
   pub name : Text
   pub asks : AsksFirst scene.state.event (rendered_pieces assignment.change scene.state.event.device) name
-  pub is : note ≡ note_about rule AttributeNotRead name
+  pub is : note ≡ note_about r AttributeNotRead name
+
+-- The search or an assignment of one of rules leaves this note.
+pub record Leaves (known : Known) (sought : Option Text) (rules : List Rule) (s : Scene) (note : Note) : Type 0 where
+  pub rule : Rule
+  pub scene : Scene
+  pub enters : Enters known sought rules s rule scene
+  pub leaves : SearchLeaves rule scene note ⊎ SetLeaves known rule scene note

@@ -1,4 +1,4 @@
--- Rules that ask for attributes of which a block may tell nothing: the only ones whose assignments can leave notes.
+-- Rules that ask for attributes of which a block may tell nothing: the only ones whose searches and assignments can leave notes.
 use Rattle.std.specs.Prelude.{Bool, false, ◌||◌, List, []}
 use Rattle.std.specs.List.{list_any}
 use Rattle.text_bytes.specs.Names.{dot, open_bracket}
@@ -8,6 +8,8 @@ use Rattle.rule_templates.specs.declared.piece.Piece.{Piece}
 use Rattle.rule_templates.specs.declared.piece.Piece.TheVariants as piece
 use Rattle.rule_types.specs.declared.part.Change.{Change}
 use Rattle.rule_types.specs.declared.part.Change.TheVariants as change
+use Rattle.rule_types.specs.declared.roles.UpKey.{UpKey}
+use Rattle.rule_types.specs.declared.roles.UpKey.TheVariants as up
 use Rattle.rule_types.specs.Rules.{Rule}
 use Rattle.eval_rendering.specs.Behind.{may_be_untold}
 
@@ -31,10 +33,15 @@ pieces_of (change.Run braces template) = template.pieces
 abbrev pub change_asks : Change → Bool
 change_asks c = list_any piece_asks (pieces_of c)
 
--- whether an assignment of a rule does
-abbrev pub rule_asks : Rule → Bool
-rule_asks r = list_any (λ a. change_asks a.change) r.sets
+-- whether a match of one device asks for such an attribute
+abbrev pub up_asks : UpKey → Bool
+up_asks (up.Attrs name) = is_of_others name
+up_asks other = false
 
--- whether an assignment of one of these rules does
+-- whether a match of one device or an assignment of a rule does
+abbrev pub rule_asks : Rule → Bool
+rule_asks r = list_any (λ part. up_asks part.key) r.up || list_any (λ a. change_asks a.change) r.sets
+
+-- whether one of these rules does
 abbrev pub ask_others : List Rule → Bool
 ask_others rules = list_any rule_asks rules

@@ -1,4 +1,4 @@
-//! When an assignment leaves a note, and when none does. Each function here is empty: its contract is the law.
+//! When a search or an assignment leaves a note, and when none does. Each function here is empty: its contract is the law.
 ghost use Rattle.std.specs.Prelude.{◌≡◌, ◌↔◌, ◌∷◌, ℕ, [], codes, false, if◌then◌else◌, is_some, List, None, Option, Some, true};
 ghost use Rattle.text_bytes.specs.Names.{digit_zero};
 ghost use Rattle.text_tables.specs.Pairs.{value_of};
@@ -23,10 +23,11 @@ ghost use Rattle.eval_unread.specs.Laws.{IsAmong, Leaves};
 ghost use Rattle.eval_unread.specs.Others.{ask_others};
 ghost use Rattle.eval_unread.specs.Unread.{rendered_pieces, unread};
 
-/// For udev there is a note if and only if an assignment leaves it: one that is reached and whose key is not final, and whose
-/// text, if it is rendered for the device, asks for an attribute of a device that the block does not have. It is about the first
-/// such attribute.
-pub fn a_note_is_left_by_an_assignment_that_asks_for_what_is_not_read()
+/// For udev there is a note if and only if a search or an assignment leaves it. A search leaves it if it is reached and no device meets
+/// all of its matches, about the attribute of the first match that the nearest device fails since the block does not tell it. An
+/// assignment leaves it if it is reached, its key is not final, and its text, if it is rendered for the device, asks for an attribute
+/// that is not read; it is about the first such attribute.
+pub fn a_note_is_left_by_a_search_or_an_assignment_that_asks_for_what_is_not_read()
     ensures { (rules : List Rule) (known : Known) (event : EventValue) (note : Note) → event.profile ≡ Udev
         → IsAmong note (unread rules known event) ↔ Leaves known None rules (start event) note }
 {}
@@ -58,8 +59,8 @@ pub fn texts_are_rendered_for_the_devices_that_their_keys_apply_to()
         → rendered_pieces (change.Text (target.Sysctl name) template) device ≡ template.pieces }
 {}
 
-/// By the manual there is no note, and neither is there one if no assignment asks for an attribute whose name begins with `[` or
-/// with `.`: such rules need not be evaluated again.
+/// By the manual there is no note, and neither is there one if no match of one device and no assignment asks for an attribute whose
+/// name begins with `[` or with `.`, or of which a block may tell nothing: such rules need not be evaluated again.
 #[tactic(auto, using(crate::proofs::Unasked::manual_unread, crate::proofs::Unasked::none_unread))]
 pub fn rules_that_ask_for_no_other_device_leave_no_note()
     ensures manual { (rules : List Rule) (known : Known) (event : EventValue) → event.profile ≡ Manual → unread rules known event ≡ [] }

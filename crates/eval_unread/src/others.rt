@@ -1,11 +1,11 @@
-//! Whether assignments of rules ask for attributes of which a block may tell nothing. It is asked once for all events: rules of which none does
+//! Whether searches and assignments of rules ask for attributes of which a block may tell nothing. It is asked once for all events: rules of which none does
 //! leave no note.
 ghost use Rattle.std.specs.Prelude.{◌≡◌};
-ghost use Rattle.eval_unread.specs.Others.{ask_others, change_asks, is_of_others, piece_asks, pieces_of, rule_asks};
+ghost use Rattle.eval_unread.specs.Others.{ask_others, change_asks, is_of_others, piece_asks, pieces_of, rule_asks, up_asks};
 
 use eval_rendering::may_be_untold;
 use rule_templates::Piece;
-use rule_types::{Assignment, Change, Rule};
+use rule_types::{Assignment, Change, Rule, UpKey};
 use text_bytes::begins_with;
 
 /// Whether a name may lead to another device, or to what a block does not tell.
@@ -45,16 +45,26 @@ fn assignment_asks(assignment: &Assignment) -> bool
         .any(|piece| piece_asks(piece))
 }
 
-/// Whether an assignment of a rule does.
+/// Whether a match of one device does.
+fn up_asks(key: &UpKey) -> bool
+    ensures { result ≡ up_asks key.now }
+{
+    match key {
+        UpKey::Attrs(name) => is_of_others(name.as_slice()),
+        _ => false,
+    }
+}
+
+/// Whether a match of one device or an assignment of a rule does.
 fn rule_asks(rule: &Rule) -> bool
     ensures { result ≡ rule_asks rule.now }
 {
-    rule.sets
-        .iter()
-        .any(|assignment| assignment_asks(assignment))
+    let searches = rule.up.iter().any(|part| up_asks(&part.key));
+    let assigns = rule.sets.iter().any(|set| assignment_asks(set));
+    searches | assigns
 }
 
-/// Whether the text of an assignment of one of these rules asks by `$attr` for an attribute of which a block may tell nothing: its
+/// Whether ATTRS or the text of an assignment, by `$attr`, asks in one of these rules for an attribute of which a block may tell nothing: its
 /// name begins with `[` or with `.`, as names do that lead to another device, leads into a folder, or is that of a file that has no
 /// value of one line.
 pub fn ask_others(rules: &[Rule]) -> bool

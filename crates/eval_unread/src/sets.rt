@@ -11,7 +11,7 @@ use rule_types::{Assignment, Rule};
 use std::alloc::{AllocError, Global};
 
 /// Adds a note on an attribute that is not read, if there is one.
-fn note_name(
+pub(crate) fn note_name(
     alloc: Global,
     rule: &Rule,
     name: Option<&[u8]>,

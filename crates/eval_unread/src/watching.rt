@@ -1,9 +1,10 @@
-//! What assignments of all rules ask for and is not read.
+//! What searches and assignments of all rules ask for and is not read.
 ghost use Rattle.std.specs.Prelude.{◌≡◌, ◌++◌, IfOk, None};
 ghost use Rattle.eval_state.specs.Scenes.{start};
 ghost use Rattle.eval_unread.specs.Unread.{rules_unread};
 
-use crate::sets::set_each;
+use crate::asked::search_unread;
+use crate::sets::{note_name, set_each};
 use builtin_knowledge::Knowledge;
 use device_core::Event;
 use eval_acts::act_step;
@@ -13,7 +14,7 @@ use rule_types::{Act, Rule};
 use std::alloc::{AllocError, Global};
 use std::marker::Model;
 
-/// The notes that were there, and those that assignments left while it watched them.
+/// The notes that were there, and those that searches and assignments left while it watched them.
 #[derive(Drop)]
 struct Noted {
     notes: Notes,
@@ -33,14 +34,19 @@ impl<'a> Watch<'a> for Noted {
 
     ghost telling = { noting };
 
-    #[tactic(auto, using(crate::proofs::AllNoted::moments_leave_nothing))]
     fn tell(
         &mut self,
-        _alloc: Global,
-        _moment: Moment<'a>,
-        _scene: &mut Scene<'a>,
+        alloc: Global,
+        moment: Moment<'a>,
+        scene: &mut Scene<'a>,
     ) -> Result<(), AllocError> {
-        Ok(())
+        match moment {
+            Moment::Searching(rule) => {
+                let name = search_unread(&rule.up, &scene.state);
+                note_name(alloc, rule, name, &mut self.notes)
+            }
+            _ => Ok(()),
+        }
     }
 
     #[tactic(auto, using(eval_rules::proofs::Staying::act_stays))]
@@ -65,7 +71,7 @@ impl<'a> Watch<'a> for Noted {
     }
 }
 
-/// Notes, and after them those of the assignments of rules at an event.
+/// Notes, and after them those of the searches and assignments of rules at an event.
 pub(crate) fn noted_after<'a, K: Knowledge>(
     alloc: Global,
     rules: &'a [Rule],

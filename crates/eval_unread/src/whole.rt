@@ -1,7 +1,5 @@
-//! The whole outcome of an event: the notes of assignments come after its own.
+//! The whole outcome of an event: the notes of searches and assignments come after its own.
 ghost use Rattle.std.specs.Prelude.{◌≡◌, IfOk, None};
-ghost use Rattle.eval_sources.specs.Reported.{event_commands, stages};
-ghost use Rattle.eval_sources.specs.Sources.{Reports};
 ghost use Rattle.eval_state.specs.Scenes.{start};
 ghost use Rattle.eval_unread.specs.Others.{ask_others};
 ghost use Rattle.eval_unread.specs.Unread.{completed, rules_unread, unread, whole_outcome, with_notes};
@@ -11,14 +9,13 @@ use crate::watching::noted_after;
 use builtin_knowledge::Knowledge;
 use device_core::Event;
 use eval_rules::{Outcome, evaluate_plain};
-use eval_sources::{Sourced, evaluate_sources};
 use eval_state::Notes;
 use rule_types::{Rule, RuleSet};
 use std::alloc::{AllocError, Global};
 use std::mem;
 use text_bytes::Profile;
 
-/// An outcome with the notes of the assignments of rules at its event after its own.
+/// An outcome with the notes of the searches and assignments of rules at its event after its own.
 fn with_noted<'o, K: Knowledge>(
     alloc: Global,
     rules: &[Rule],
@@ -42,8 +39,9 @@ fn with_noted<'o, K: Knowledge>(
 }
 
 /// An outcome with the notes on attributes after its own that udev (systemd 257) would read and a dry run does not: those of
-/// devices that the block does not have, for which the text of an assignment asks by `$attr`. Of each assignment that is made
-/// it is the first such attribute; its substitution is empty. By the manual there are none.
+/// devices that the block does not have, or of which it tells nothing, for which ATTRS asks in a rule that no device meets, or the
+/// text of an assignment by `$attr`. Of each assignment that is made it is the first such attribute; its substitution is empty. By the
+/// manual there are none.
 ///
 /// If none asks for attributes of other devices, they are not evaluated again. If memory runs out, the outcome is dropped.
 fn with_unread<'o, K: Knowledge>(
@@ -66,7 +64,7 @@ fn with_unread<'o, K: Knowledge>(
     }
 }
 
-/// An outcome with what its answer tells besides: for udev the notes of assignments on attributes that udev would read and a dry run
+/// An outcome with what its answer tells besides: for udev the notes of searches and assignments on attributes that udev would read and a dry run
 /// does not, after its own, and the mode that the kernel gives the node, if no rule set one.
 ///
 /// `asks` says whether the rules ask for attributes of other devices at all, as `ask_others` has it. If memory runs out, the outcome
@@ -99,30 +97,4 @@ pub fn evaluate_whole<'a, K: Knowledge>(
 {
     let outcome = evaluate_plain(alloc, rules, event, knowledge)?;
     completed(alloc, asks, rules.rules(), event, knowledge, outcome)
-}
-
-/// The same, with where it comes from, as `evaluate_sources` has it.
-pub fn evaluate_whole_sources<'a, K: Knowledge>(
-    alloc: Global,
-    asks: bool,
-    rules: &'a [Rule],
-    event: &'a Event<'_>,
-    knowledge: &K,
-) -> Result<Sourced<'a>, AllocError>
-    requires { asks ≡ ask_others rules.now }
-    ensures outcome { IfOk result (λ s. s.outcome ≡ whole_outcome rules.now (K.known knowledge.now) event.now) }
-    ensures sources { IfOk result (λ s. Reports (stages rules.now (K.known knowledge.now) event.now) s.sources) }
-    ensures commands { IfOk result (λ s. s.commands.items ≡ event_commands rules.now (K.known knowledge.now) event.now) }
-{
-    let Sourced {
-        outcome,
-        sources,
-        commands,
-    } = evaluate_sources(alloc, rules, event, knowledge)?;
-    let outcome = completed(alloc, asks, rules, event, knowledge, outcome)?;
-    Ok(Sourced {
-        outcome,
-        sources,
-        commands,
-    })
 }

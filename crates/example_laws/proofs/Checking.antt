@@ -18,14 +18,14 @@ use Rattle.engine_ends.specs.Kinds.{names_files_of}
 use Rattle.engine_ends.specs.declared.line.Format.{Format}
 use Rattle.engine_ends.specs.declared.line.Line.{Line}
 use Rattle.engine_reports.specs.Checks.{files_said}
-use Rattle.engine_reports.specs.Outcomes.{database_outcome, hold_few_tokens, too_many_rules, update_status}
+use Rattle.engine_reports.specs.Outcomes.{database_outcome, hold_few_tokens, too_many_rules}
 use Rattle.trie_core.specs.Image.{image}
 use Rattle.engine_formats.specs.Diagnostics.{DiagnosticValue}
 use Rattle.engine_formats.specs.Formats.{formatted}
 use Rattle.engine_formats.specs.Paths.{path_in_folder}
 use Rattle.engine_checks.specs.Files.{asked_by, database_found_with, database_lints_counted, database_reported, found_with, ignores_counted, lints_counted, rules_reported}
 use Rattle.engine_checks.specs.Links.{links_found, links_outcome, links_reported}
-use Rattle.engine_checks.specs.Outcomes.{checks_outcome, database_checks, in_format, rules_checks}
+use Rattle.engine_checks.specs.Outcomes.{database_checks, in_format, rules_checks, update_status, verify_outcome}
 use Rattle.engine_checks.specs.Reported.{Asked, FileText, file_reported}
 use Rattle.example_laws.specs.Checked.{Checks, ChecksDatabase, ChecksLinks, database_file, rules_file}
 
@@ -57,7 +57,7 @@ same_kind Udev rules = refl
 
 -- what a named file's line says, once the file is named
 named_one : (rules : Text) (line : Line) → names_files_of line Rules ≡ true
-    → checks_outcome line (rules_file rules ∷ []) ≡ said_by (asked_by line) line.format line.summary rules
+    → verify_outcome line (rules_file rules ∷ []) ≡ said_by (asked_by line) line.format line.summary rules
 unfolding rules_checks rules_reported
 named_one rules line named =
     ap (λ b. rules_checks line (map (file_as_read line.profile) (cond b (rules_file rules ∷ []) (ordered (suffix_of Rules) (rules_file rules ∷ []))))) named

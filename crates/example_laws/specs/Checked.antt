@@ -11,7 +11,7 @@ use Rattle.engine_ends.specs.declared.line.Format.{Format}
 use Rattle.engine_ends.specs.declared.line.Line.{Line}
 use Rattle.engine_checks.specs.Files.{asked_by}
 use Rattle.engine_checks.specs.Links.{links_outcome}
-use Rattle.engine_checks.specs.Outcomes.{checks_outcome, reported_update_outcome}
+use Rattle.engine_checks.specs.Outcomes.{update_outcome, verify_outcome}
 use Rattle.engine_checks.specs.Reported.{Asked}
 use Rattle.example_laws.specs.Answered.{file_with}
 
@@ -36,7 +36,7 @@ rules_file rules = file_with Rules (codes "r.rules") rules
 
 -- such a line has this outcome over a rules file with a text
 abbrev pub Checks : Asked → Format → Text → RunOutcome → Type 0
-Checks asked format rules said = (line : Line) → IsVerify asked format line → checks_outcome line (rules_file rules ∷ []) ≡ said
+Checks asked format rules said = (line : Line) → IsVerify asked format line → verify_outcome line (rules_file rules ∷ []) ≡ said
 
 -- the outcome with this output, these messages and this status
 abbrev pub said : Text → Text → ℕ → RunOutcome
@@ -59,4 +59,4 @@ database_file database = file_with Hwdb (codes "d.hwdb") database
 -- such a line writes these messages over a file of a database with a text
 abbrev pub ChecksDatabase : Asked → Format → Text → (messages : Text) → Type 0
 ChecksDatabase asked format database messages =
-    (line : Line) → IsUpdate asked format line → (reported_update_outcome line (database_file database ∷ [])).messages ≡ messages
+    (line : Line) → IsUpdate asked format line → (update_outcome line (database_file database ∷ [])).messages ≡ messages

@@ -87,6 +87,7 @@ unfoldable pub unused_with_added : (added rules : Text) → Text → Text
 unused_with_added added rules input =
     unused_lines (codes "x/a.rules" ∷ []) (read_with_added added rules).rules (only_entries []) (events_of Manual input)
 
--- what is said with `--format=human` after messages, by the text of an input, where each event is answered with the line `a`
-unfoldable pub told_people : Text → Text → RunOutcome
-told_people messages input = input_outcome true messages (λ event. codes "a\n") input
+-- what is said to people after messages, by whether it is told that there is no block and by the text of an input, where each event is
+-- answered with the line `a`
+unfoldable pub told_people : (no_block : Bool) → Text → Text → RunOutcome
+told_people no_block messages input = input_outcome (record { for_people = true; no_block = no_block }) messages (λ event. codes "a\n") input

@@ -1,5 +1,5 @@
 //! Examples of `verify`, and of `update --lint`.
-ghost use Rattle.std.specs.Prelude.{◌∷◌, [], codes};
+ghost use Rattle.std.specs.Prelude.{◌∷◌, [], codes, false};
 ghost use Rattle.text_bytes.specs.declared.profile.Profile.TheVariants.{Manual, Udev};
 ghost use Rattle.text_bytes.specs.declared.source_file.FileKind.TheVariants.{Rules};
 ghost use Rattle.engine_ends.specs.declared.line.Format.TheVariants.{Gcc, Plain};
@@ -194,4 +194,20 @@ pub fn lints_are_reported_among_messages_by_line()
         codes "r.rules:1: W8 name outside net: a" ∷ codes "r.rules:2: V2 unknown key: NONE"
         ∷ codes "r.rules:3: S2 blank after a comma expected: NAME" ∷ codes "r.rules:3: W8 name outside net: c"
         ∷ codes "r.rules:4: V2 unknown key: NONE" ∷ [])) 1) }
+{}
+
+/// Without options `verify` and `update` say a line for each message: the file's name, the line, the code with its text, and the
+/// word. What lints would find is not told, and style where it is asked for.
+pub fn messages_are_told_in_lines()
+    ensures verify { Checks not_linting Plain
+        (text (
+        codes "KERNEL==\"a\", MODE=\"0660\"" ∷ codes "NONE=\"1\"" ∷ codes "KERNEL==\"b\",TAG+=\"t\"" ∷ codes "SUBSYSTEM==\"block\", NAME=\"c\"" ∷ []))
+        (said (codes "1 files checked, 0 good, 1 bad\n")
+        (codes "r.rules:2: V2 unknown key: NONE\nr.rules:3: S2 blank after a comma expected: TAG\n") 1) }
+    ensures without_style { Checks (record not_linting { style = false }) Plain
+        (text (codes "NONE=\"1\"" ∷ codes "KERNEL==\"b\",TAG+=\"t\"" ∷ []))
+        (said (codes "1 files checked, 0 good, 1 bad\n") (codes "r.rules:1: V2 unknown key: NONE\n") 1) }
+    ensures update { ChecksDatabase not_linting Plain
+        (codes "usb:v0*\n\nusb:v1*\n A\n")
+        (codes "d.hwdb:1: H2 match without a property: usb:v0*\nd.hwdb:4: H4 no =: A\n") }
 {}

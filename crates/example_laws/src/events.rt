@@ -1,5 +1,5 @@
 //! Examples of what rules and blocks say: what an event begins with, jumps, lines that are read and lines that are not.
-ghost use Rattle.std.specs.Prelude.{◌≡◌, ◌++◌, ◌∷◌, [], codes};
+ghost use Rattle.std.specs.Prelude.{◌≡◌, ◌++◌, ◌∷◌, [], codes, false, true};
 ghost use Rattle.example_laws.specs.Answered.{answered, text};
 ghost use Rattle.example_laws.specs.Reported.{told_people};
 
@@ -77,9 +77,14 @@ pub fn the_first_fault_of_a_block_is_told()
         ≡ codes "line 3: pair" }
 {}
 
-/// Below the line on a faulty block people are told what is wrong and what to do, after the messages and the answers before it.
+/// Below the line on a faulty block people are told what is wrong and what to do, after the messages and the answers before it. That there
+/// is no block is told in a line, if that is asked for, and changes no status.
 pub fn people_are_told_what_is_wrong_with_a_block()
-    ensures { told_people (codes "m\n") (codes "C: add\nP: /d\n\nC: add\nP: d\n")
+    ensures none { told_people true (codes "m\n") (codes "\n\n")
+        ≡ record { output = []; messages = codes "m\ndevdry: no event block in the input\n"; status = 0 } }
+    ensures unasked { told_people false (codes "m\n") (codes "\n\n") ≡ record { output = []; messages = codes "m\n"; status = 0 } }
+    ensures some { told_people true (codes "m\n") (codes "C: add\nP: /d\n") ≡ record { output = codes "a\n"; messages = codes "m\n"; status = 0 } }
+    ensures faulty { told_people true (codes "m\n") (codes "C: add\nP: /d\n\nC: add\nP: d\n")
         ≡ record {
           output = codes "a\n";
           messages = codes "m\nblock 2, line 2: path\n"

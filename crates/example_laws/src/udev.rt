@@ -191,8 +191,16 @@ pub fn udev_notes_what_is_odd_about_a_block()
 {}
 
 /// For udev the text of an assignment that asks for an attribute of a device that the block does not have leaves a note after all
-/// others: about the first such attribute, if the assignment is reached and its text is rendered. By the manual it leaves none.
-pub fn an_assignment_that_asks_for_another_device_is_noted_for_udev()
+/// others: about the first such attribute, if the assignment is reached and its text is rendered. So does ATTRS if no device meets the
+/// rule and one is given up since the block does not tell the attribute. By the manual none leaves a note.
+pub fn what_searches_and_assignments_ask_for_and_is_not_read_is_noted_for_udev()
+    ensures searched { answered_as_udev
+        (text (
+        codes "ATTRS{q/x}==\"1\", ENV{B}=\"1\"" ∷ codes "KERNELS==\"h\", ATTRS{p/x}==\"2\", ENV{B}=\"1\"" ∷ codes "ATTRS{p/x}==\"1\", ENV{A}=\"1\"" ∷ []))
+        (codes "C: add\nP: /h/d\nU: m\nA: a=1\nP: /h\nU: u\nA: p/x=1")
+        ≡ text (
+        codes "event add /h/d" ∷ codes "env A=1" ∷ codes "env ACTION=add" ∷ codes "env DEVPATH=/h/d" ∷ codes "env SUBSYSTEM=m"
+        ∷ codes "note r.rules:1: attribute not read: q/x" ∷ codes "" ∷ []) }
     ensures udev { answered_as_udev
         (text (
         codes "ENV{A}=\"$attr{a}$attr{../x}$attr{[u/g]b}|\", SYMLINK+=\"$attr{[u/g]l}\"" ∷ codes "KERNEL==\"none\", ENV{B}=\"$attr{[u/g]c}\""

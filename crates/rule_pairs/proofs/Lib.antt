@@ -5,3 +5,5 @@ pub mod FirstPairs
 pub mod Likeness
 pub mod WordSets
 pub mod Beginnings
+pub mod Chances
+pub mod Later

@@ -1,7 +1,7 @@
 -- Likeness does not depend on order, and no two tokens are both the same and against each other.
 use Rattle.std.proofs.Common.{◌≡◌, Bool, true, false, cond, not, ◌&&◌, ◌||◌, List, Option, Some, None, refl, ap, sym, ◌∙◌, true≢false}
 use Rattle.std.specs.Bool.{beq}
-use Rattle.std.specs.Cmp.{booleans_Decides}
+use Rattle.std.specs.Cmp.{booleans_Decides, signed_Decides}
 use Rattle.std.specs.Cmp.Lexicographic.{bytes_decides}
 use Rattle.std.specs.List.{list_all}
 use Rattle.std.specs.Option.{option_eq}
@@ -18,6 +18,7 @@ use Rattle.rule_types.specs.Tokens.{same_operator}
 use Rattle.rule_pairs.specs.Relations.{are_alike, are_disjoint, are_opposite, is_against, is_same, is_wordless, lacks_words, same_form, same_matter, same_way, same_words}
 use Rattle.rule_pairs.specs.Pairs.{are_related, message_of}
 use Rattle.rule_pairs.specs.Said.{Said}
+use Rattle.rule_pairs.specs.Known.{key_of}
 use Rattle.rule_pairs.specs.declared.pair_finding.PairKind.{PairKind}
 use Rattle.rule_pairs.specs.declared.pair_finding.PairKind.TheVariants.{Same, Against}
 use Rattle.rule_pairs.specs.declared.form.Form.{Form}
@@ -43,7 +44,7 @@ number_reversed (Some x) None = refl
 number_reversed (Some x) (Some y) = int_eq_equiv.symm x y
 
 -- two forms that are one are the same
-form_is : (a b : Form) → same_form a b ≡ true → a ≡ b
+pub form_is : (a b : Form) → same_form a b ≡ true → a ≡ b
 form_is form.AnySubsystem form.AnySubsystem h = refl
 form_is form.Empty form.Empty h = refl
 form_is form.Plain form.Plain h = refl
@@ -74,8 +75,24 @@ bool_reversed true false = refl
 bool_reversed false true = refl
 bool_reversed false false = refl
 
-bool_is : (a b : Bool) → beq a b ≡ true → a ≡ b
+pub bool_is : (a b : Bool) → beq a b ≡ true → a ≡ b
 bool_is a b h = (booleans_Decides a b).0 h
+
+-- two operators that are one are the same
+pub op_is : (o p : Operator) → same_operator o p ≡ true → o ≡ p
+op_is op.Equal op.Equal h = refl
+op_is op.NotEqual op.NotEqual h = refl
+op_is op.Add op.Add h = refl
+op_is op.Remove op.Remove h = refl
+op_is op.AssignFinal op.AssignFinal h = refl
+op_is op.Assign op.Assign h = refl
+op_is _ _ h = absurd (true≢false (sym h))
+
+number_is : (a b : Option ℤ) → option_eq int_eq a b ≡ true → a ≡ b
+number_is None None h = refl
+number_is None (Some y) h = absurd (true≢false (sym h))
+number_is (Some x) None h = absurd (true≢false (sym h))
+number_is (Some x) (Some y) h = ap Some ((signed_Decides x y).0 h)
 
 and_reversed : (a b : Bool) → (a && b) ≡ (b && a)
 and_reversed true true = refl
@@ -99,6 +116,24 @@ lacks_alike a b h =
     ap (λ (f : Form). is_wordless f && (not a.blind && not a.trims)) one
     ∙ ap (λ (x : Bool). is_wordless b.form && (not x && not a.trims)) blind
     ∙ ap (λ (x : Bool). is_wordless b.form && (not b.blind && not x)) trims
+
+-- tokens of one matter that compare in one way have one key
+pub key_is : (a b : Said) (o : Operator) → (same_matter a b && same_way a b) ≡ true → key_of a o ≡ key_of b o
+unfolding key_of
+key_is a b o h =
+    let matter : same_matter a b ≡ true = first_holds (same_matter a b) (same_way a b) h in
+    let way : same_way a b ≡ true = second_holds (same_matter a b) (same_way a b) h in
+    let rest : (same_text a.kind b.kind && (same_text a.name b.name && option_eq int_eq a.number b.number)) ≡ true = second_holds (same_text a.key b.key) (same_text a.kind b.kind && (same_text a.name b.name && option_eq int_eq a.number b.number)) matter in
+    let last : (same_text a.name b.name && option_eq int_eq a.number b.number) ≡ true = second_holds (same_text a.kind b.kind) (same_text a.name b.name && option_eq int_eq a.number b.number) rest in
+    let flags : (beq a.blind b.blind && beq a.trims b.trims) ≡ true = second_holds (same_form a.form b.form) (beq a.blind b.blind && beq a.trims b.trims) way in
+    let key : a.key ≡ b.key = (bytes_decides a.key b.key).0 (first_holds (same_text a.key b.key) (same_text a.kind b.kind && (same_text a.name b.name && option_eq int_eq a.number b.number)) matter) in
+    let kind : a.kind ≡ b.kind = (bytes_decides a.kind b.kind).0 (first_holds (same_text a.kind b.kind) (same_text a.name b.name && option_eq int_eq a.number b.number) rest) in
+    let name : a.name ≡ b.name = (bytes_decides a.name b.name).0 (first_holds (same_text a.name b.name) (option_eq int_eq a.number b.number) last) in
+    let number : a.number ≡ b.number = number_is a.number b.number (second_holds (same_text a.name b.name) (option_eq int_eq a.number b.number) last) in
+    let form : a.form ≡ b.form = form_is a.form b.form (first_holds (same_form a.form b.form) (beq a.blind b.blind && beq a.trims b.trims) way) in
+    let blind : a.blind ≡ b.blind = bool_is a.blind b.blind (first_holds (beq a.blind b.blind) (beq a.trims b.trims) flags) in
+    let trims : a.trims ≡ b.trims = bool_is a.trims b.trims (second_holds (beq a.blind b.blind) (beq a.trims b.trims) flags) in
+    rw (key, kind, name, number, form, blind, trims) refl
 
 words_reversed : (ws vs : List Text) → same_words ws vs ≡ same_words vs ws
 words_reversed ws vs = and_reversed (list_all (is_among vs) ws) (list_all (is_among ws) vs)

@@ -13,10 +13,10 @@ use Rattle.rule_pairs.specs.Words.{parts_of, with_word}
 use Rattle.rule_pairs.proofs.Beginnings.{first_holds, second_holds}
 use Rattle.rule_pairs.proofs.Likeness.{both_or_none}
 
-text_is : (a b : Text) → same_text a b ≡ true → a ≡ b
+pub text_is : (a b : Text) → same_text a b ≡ true → a ≡ b
 text_is a b h = (bytes_decides a b).0 h
 
-text_itself : (a : Text) → same_text a a ≡ true
+pub text_itself : (a : Text) → same_text a a ≡ true
 text_itself a = (bytes_decides a a).1 refl
 
 -- a word that was added is there unless it is empty

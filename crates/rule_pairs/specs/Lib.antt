@@ -1,9 +1,10 @@
-pub mod Accounts
 pub mod AccountTables
-pub mod Matters
+pub mod Accounts
 pub mod Forms
-pub mod Words
-pub mod Said
-pub mod Relations
-pub mod Pairs
+pub mod Known
 pub mod Laws
+pub mod Matters
+pub mod Pairs
+pub mod Relations
+pub mod Said
+pub mod Words

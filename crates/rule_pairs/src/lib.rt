@@ -8,6 +8,7 @@ mod account_list;
 mod accounts;
 mod examples;
 mod form;
+mod known;
 mod laws;
 mod matter;
 mod pair_finding;

@@ -1,10 +1,12 @@
 //! What is reported for the tokens of one rule, two by two.
-ghost use Rattle.std.specs.Prelude.{◌≡◌, ◌∷◌, [], ◌+◌, ◌<◌, ◌^◌, IfOk, OnOk, length, map};
+ghost use Rattle.std.specs.Prelude.{Bool, ◌≡◌, ◌∷◌, [], ◌+◌, ◌<◌, ◌^◌, IfOk, OnOk, Some, length, map, option_map};
+ghost use Rattle.rule_pairs.specs.Known.{chance_of, known_of, may_add};
 ghost use Rattle.rule_pairs.specs.Pairs.{are_of_kind, are_related, is_reported, pair_findings, pairs_from, pairs_with, reported_for, same_kind, with_kind};
 ghost use Rattle.rule_pairs.specs.Pairs.{with_pair};
 ghost use Rattle.rule_pairs.specs.Said.{said_of};
 
 use crate::accounts::Accounts;
+use crate::known::chances_of_many;
 use crate::pair_finding::{PairFinding, PairKind};
 use crate::relations::{is_against, is_same};
 use crate::said::{Said, said_of};
@@ -14,7 +16,9 @@ use std::alloc::{AllocError, Global};
 /// What is reported for the tokens of one rule: the first pair of tokens that say the same, and the first pair that
 /// exclude each other, in the order in which the pairs are written.
 ///
-/// The time grows with the square of the number of tokens, as long as neither is found.
+/// Of many tokens, one is compared with those after it only if what is known of them lets a pair through (`known`). The time grows with
+/// the square of the number of tokens only if these are matches of one kind whose alternatives overlap two by two, and none
+/// of them is in all.
 #[tactic(auto, unfolding(crate::specs::Pairs::pair_findings))]
 pub fn pair_findings(
     alloc: Global,
@@ -43,15 +47,17 @@ fn all_said(
 }
 
 /// What is reported for tokens.
-#[tactic(auto, using(crate::proofs::Reporting::next_token, crate::proofs::Reporting::no_token))]
+#[tactic(auto, using(crate::proofs::Reporting::next_token, crate::proofs::Reporting::no_token, crate::proofs::Chances::suffix_next))]
 fn reported_for(alloc: Global, said: &[Option<Said>]) -> Result<Vec<PairFinding>, AllocError>
     ensures { IfOk result (λ reported. reported.items ≡ reported_for [] (pairs_from 0 said.now)) }
 {
+    let chances = chances_of_many(alloc, said)?;
     let mut reported = Vec::new(alloc);
     let mut left = said;
     while let Some((earlier, following)) = left.split_first() {
         report_pairs(
             &mut reported,
+            chances.get(following.len()),
             earlier,
             following,
             said.len() - following.len(),
@@ -61,17 +67,36 @@ fn reported_for(alloc: Global, said: &[Option<Said>]) -> Result<Vec<PairFinding>
     Ok(reported)
 }
 
+/// Whether a token may add to what is reported, by whether there may be one after it that says the same, and one that
+/// excludes it.
+fn may_add(chance: Option<&(bool, bool)>, reported: &[PairFinding]) -> bool
+    ensures { result ≡ may_add (option_map (λ c. c.now) chance.entry) reported.now }
+{
+    match chance {
+        None => true,
+        Some((same, against)) => {
+            (*same && !is_reported(PairKind::Same, reported))
+                || (*against && !is_reported(PairKind::Against, reported))
+        }
+    }
+}
+
 /// Adds what is reported for a token with each of those after it, of which the first is at a place.
-#[tactic(auto, using(crate::proofs::Reporting::next_pair))]
+#[tactic(auto, using(crate::proofs::Reporting::next_pair, crate::proofs::Chances::nothing_added))]
 fn report_pairs(
     reported: &mut Vec<PairFinding>,
+    chance: Option<&(bool, bool)>,
     earlier: &Option<Said>,
     following: &[Option<Said>],
     first: usize,
 ) -> Result<(), AllocError>
-    requires { first + length following.now < 2 ^ 64 }
+    requires within { first + length following.now < 2 ^ 64 }
+    requires known { (c : Bool × Bool) → option_map (λ x. x.now) chance ≡ Some c → c ≡ chance_of (known_of following.now) earlier.now }
     ensures { OnOk result (reported.new.items ≡ reported_for reported.old.items (pairs_with earlier.now first following.now)) }
 {
+    if !may_add(chance, reported) {
+        return Ok(());
+    }
     let mut place = first;
     for later in following {
         report_pair(reported, earlier, later, place)?;

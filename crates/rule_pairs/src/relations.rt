@@ -70,14 +70,14 @@ fn same_way(a: &Said, b: &Said) -> bool
 }
 
 /// Whether the words of a token do not matter.
-fn lacks_words(a: &Said) -> bool
+pub(crate) fn lacks_words(a: &Said) -> bool
     ensures { result ≡ lacks_words a.now }
 {
     is_wordless(a.form) && !a.blind && !a.trims
 }
 
 /// Whether a token compares by `==`, case counts, and it does not trim.
-fn is_strict(a: &Said) -> bool
+pub(crate) fn is_strict(a: &Said) -> bool
     ensures { result ≡ is_strict a.now }
 {
     same_operator(a.operator, Operator::Equal) && !a.blind && !a.trims
@@ -146,7 +146,7 @@ fn has_all(texts: &OwnedTexts, words: &[Vec<u8>]) -> bool
 }
 
 /// Whether one of these words is among texts.
-fn has_any(texts: &OwnedTexts, words: &[Vec<u8>]) -> bool
+pub(crate) fn has_any(texts: &OwnedTexts, words: &[Vec<u8>]) -> bool
     ensures { result ≡ list_any (is_among texts.now) (map (λ word. word.items) words.now) }
 {
     for word in words {
@@ -192,7 +192,7 @@ fn part_ways(x: &[u8], y: &[u8]) -> bool
 
 /// What is in a pattern before its first `*`, `?` or `[`.
 #[tactic(auto, unfolding(crate::specs::Relations::beginning))]
-fn beginning(word: &[u8]) -> &[u8]
+pub(crate) fn beginning(word: &[u8]) -> &[u8]
     ensures { result.now ≡ beginning word.now }
 {
     let (prefix, _) = word.split_at(plain_length(word));

@@ -161,7 +161,7 @@ fn opposite_by(text: &[u8], operator: Operator) -> Operator
 }
 
 /// The other of `==` and `!=`.
-fn opposite(operator: Operator) -> Operator
+pub(crate) fn opposite(operator: Operator) -> Operator
     ensures { result ≡ opposite operator }
 {
     match operator {

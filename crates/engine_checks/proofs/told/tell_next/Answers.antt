@@ -2,10 +2,9 @@ use Rattle.std.proofs.Common.{ℕ, ◌<◌, ◌≡◌, Bool, ◌||◌, List, Bor
 use Rattle.std.specs.List.{flat_map}
 use Rattle.std.proofs.lemmas.List.{length-append}
 use Rattle.text_tables.specs.Texts.{is_among, same_text}
-use Rattle.engine_reports.proofs.Telling.{among_pushed, or_none}
 use Rattle.engine_formats.specs.Lines.{plain_line}
 use Rattle.engine_checks.specs.Told.{reported_by}
-use Rattle.engine_checks.proofs.BadFiles.{bad_file, good_file}
+use Rattle.engine_checks.proofs.BadFiles.{among_pushed, bad_file, good_file, or_none}
 use Rattle.engine_checks.proofs.told.tell_next.Goals as goal
 
 pub returns-in_ok-push-clause-bad : goal.returns-in_ok-push-clause-bad

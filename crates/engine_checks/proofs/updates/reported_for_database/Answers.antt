@@ -1,28 +1,13 @@
-use Rattle.std.proofs.Common.{rules, ◌≡◌, length, map, ap, sym, ◌∙◌}
-use Rattle.std.specs.List.{flat_map}
-use Rattle.std.proofs.lemmas.List.{length-map}
-use Rattle.engine_formats.specs.Diagnostics.{shown}
-use Rattle.engine_formats.specs.Formats.{formatted}
-use Rattle.engine_checks.specs.Files.{database_reported}
-use Rattle.engine_checks.specs.Tables.{database_reported_by}
-use Rattle.engine_checks.proofs.Checking.{database_by}
+use Rattle.std.proofs.Common.{sym, ◌∙◌}
+use Rattle.engine_checks.proofs.Updating.{messages_counted, messages_told}
 use Rattle.engine_checks.proofs.updates.reported_for_database.Goals as goal
 
-pub returns-clause-text : goal.returns-clause-text
-returns-clause-text c =
-    let all : map shown c.in_ok-reported.reported.items ≡ flat_map (database_reported c.args.line.now) c.args.files.now =
-    c.in_ok-reported.ensures
-    ∙ ap (flat_map (database_reported_by c.in_ok-asked.asked)) (c.deref.ensures.value ∙ c.in_ok-reads.ensures)
-    ∙ database_by c.args.line.now c.in_ok-asked.asked c.in_ok-asked.ensures.profile c.in_ok-asked.ensures.accounts c.in_ok-asked.ensures.style c.in_ok-asked.ensures.lint c.in_ok-asked.ensures.ignored c.args.files.now in
-    c.in_ok-formatted.ensures
-    ∙ ap (λ ds. formatted c.args.line.now.format (map shown ds)) c.deref-2.ensures.value
-    ∙ ap (formatted c.args.line.now.format) all
+pub returns-then-tells_messages-clause-text : goal.returns-then-tells_messages-clause-text
+returns-then-tells_messages-clause-text c =
+    messages_told c.args.line.now c.in_ok-asked.asked c.args.files.now c.args.messages.now c.in_ok-told.told.text.items c.in_ok-told.ensures.text c.requires (sym c.tells_messages.ensures ∙ c.if-tells_messages.true)
+    c.in_ok-asked.ensures.profile c.in_ok-asked.ensures.accounts c.in_ok-asked.ensures.style c.in_ok-asked.ensures.lint c.in_ok-asked.ensures.ignored c.messages_are_at_their_words.ensures.word
 
-pub returns-clause-count : goal.returns-clause-count
-returns-clause-count c =
-    let all : map shown c.in_ok-reported.reported.items ≡ flat_map (database_reported c.args.line.now) c.args.files.now =
-    c.in_ok-reported.ensures
-    ∙ ap (flat_map (database_reported_by c.in_ok-asked.asked)) (c.deref.ensures.value ∙ c.in_ok-reads.ensures)
-    ∙ database_by c.args.line.now c.in_ok-asked.asked c.in_ok-asked.ensures.profile c.in_ok-asked.ensures.accounts c.in_ok-asked.ensures.style c.in_ok-asked.ensures.lint c.in_ok-asked.ensures.ignored c.args.files.now in
-    let len : c.len.result ≡ length c.in_ok-reported.reported.items = search rules in
-    len ∙ sym (length-map c.in_ok-reported.reported.items shown) ∙ ap length all
+pub returns-then-tells_messages-clause-count : goal.returns-then-tells_messages-clause-count
+returns-then-tells_messages-clause-count c =
+    messages_counted c.args.line.now c.in_ok-asked.asked c.args.files.now c.args.messages.now c.in_ok-told.told.count c.in_ok-told.ensures.count c.requires (sym c.tells_messages.ensures ∙ c.if-tells_messages.true)
+    c.in_ok-asked.ensures.profile c.in_ok-asked.ensures.accounts c.in_ok-asked.ensures.style c.in_ok-asked.ensures.lint c.in_ok-asked.ensures.ignored

@@ -19,4 +19,4 @@ returns-in-Ok g c =
         (c.args.old_line.now.sources, (new.rules, record { links = c.args.new_line.now.links.items; files = c.args.new_found.now; entries = new.entries })),
       ),
     ) = search rules in
-    finds_both c.args.old_line.now c.is_for_people-for_people.result _ _ c.in-Ok.tables _ _ _ _ c.is_for_people-for_people.ensures messages tables c.find_after_messages.ensures.steps
+    finds_both c.args.old_line.now c.telling_of-telling.result _ _ c.in-Ok.tables _ _ _ _ c.telling_of-telling.ensures messages tables c.find_after_messages.ensures.steps

@@ -9,7 +9,7 @@ pub returns-then-not-line-clause-says : goal.returns-then-not-line-clause-says
 returns-then-not-line-clause-says g c = λ e. let both : true ≡ false = sym e ∙ c.if-not-line.true in absurd cc
 
 pub returns-then-not-line-clause-answers : goal.returns-then-not-line-clause-answers
-returns-then-not-line-clause-answers g c = λ e. rw c.is_for_people-for_people.ensures at c.answer_after_messages.ensures.steps
+returns-then-not-line-clause-answers g c = λ e. rw c.telling_of-telling.ensures at c.answer_after_messages.ensures.steps
 
 pub returns-in-Ok-clause-says : goal.returns-in-Ok-clause-says
 returns-in-Ok-clause-says g c = λ e.
@@ -17,7 +17,7 @@ returns-in-Ok-clause-says g c = λ e.
     let tally = subst (λ paths. c.in-Ok.tally ≡ record { names = rules_named (map (λ f. f.now) paths); rules = c.args.rules.now; knowledge = c.args.knowledge.now; rows = map unreached c.args.rules.now }) added c.in-Ok.ensures in
     said_as _ _ _ _ _ _ _ _
     (tally_says g.K.Knowledge.known (map (λ f. f.now) c.args.line.now.added.items) c.args.rules.now c.args.knowledge.now c.in-Ok.tally c.args.line.now.profile tally)
-    (rw c.is_for_people-for_people.ensures at c.answer_and_tally.ensures.steps)
+    (rw c.telling_of-telling.ensures at c.answer_and_tally.ensures.steps)
 
 pub returns-in-Ok-clause-answers : goal.returns-in-Ok-clause-answers
 returns-in-Ok-clause-answers g c = λ e. let both : true ≡ false = sym c.if-not-line.false ∙ e in absurd cc

@@ -1,6 +1,6 @@
 use Rattle.std.proofs.Common.{ap, refl}
 use Rattle.engine_reports.specs.Outcomes.{query_over}
-use Rattle.engine_core.specs.Checking.{update_said, verify_said}
+use Rattle.engine_checks.specs.Outcomes.{update_outcome, verify_outcome}
 use Rattle.engine_core.specs.Mending.{mend_said}
 use Rattle.engine_core.specs.Outcomes.{before_input}
 use Rattle.engine_core.proofs.Running.{report_runs}
@@ -13,12 +13,12 @@ returns-in-Query-clause-runs g c =
 
 pub returns-in-Update-clause-runs : goal.returns-in-Update-clause-runs
 returns-in-Update-clause-runs g c =
-    report_runs c.args.line.now c.args.found.now _ (update_said c.args.line.now c.args.files.items) c.report_on_index.result _ _ _ (ap (λ v. before_input v c.args.line.now c.args.files.items c.args.opened) c.in-Update.is)
-    c.deliver_report-in-Update.ensures.delivers c.deliver_report-in-Update.ensures.faults (record { says = c.report_on_index.ensures.said; refused = c.report_on_index.ensures.refused }) refl
+    report_runs c.args.line.now c.args.found.now _ (update_outcome c.args.line.now c.args.files.items) c.report_on_update.result _ _ _ (ap (λ v. before_input v c.args.line.now c.args.files.items c.args.opened) c.in-Update.is)
+    c.deliver_report-in-Update.ensures.delivers c.deliver_report-in-Update.ensures.faults (record { says = c.report_on_update.ensures.said; refused = c.report_on_update.ensures.refused }) refl
 
 pub returns-in-Verify-clause-runs : goal.returns-in-Verify-clause-runs
 returns-in-Verify-clause-runs g c =
-    report_runs c.args.line.now c.args.found.now _ (verify_said c.args.line.now c.args.files.items) c.report_on_verify.result _ _ _ (ap (λ v. before_input v c.args.line.now c.args.files.items c.args.opened) c.in-Verify.is)
+    report_runs c.args.line.now c.args.found.now _ (verify_outcome c.args.line.now c.args.files.items) c.report_on_verify.result _ _ _ (ap (λ v. before_input v c.args.line.now c.args.files.items c.args.opened) c.in-Verify.is)
     c.deliver_report-in-Verify.ensures.delivers c.deliver_report-in-Verify.ensures.faults (record { says = c.report_on_verify.ensures.said; refused = c.report_on_verify.ensures.refused }) refl
 
 pub returns-in-Mend-clause-runs : goal.returns-in-Mend-clause-runs

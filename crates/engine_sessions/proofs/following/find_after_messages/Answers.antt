@@ -3,4 +3,4 @@ use Rattle.engine_sessions.proofs.FindServing.{finds_serve}
 use Rattle.engine_sessions.proofs.following.find_after_messages.Goals as goal
 
 pub returns-clause-serves : goal.returns-clause-serves
-returns-clause-serves g c = finds_serve c.args.for_people c.args.messages.now (answer_of g.A.Answering.answers (asked_by c.args.profile c.args.answering.now)) _ _ _ c.find_in_steps.ensures
+returns-clause-serves g c = finds_serve c.args.telling c.args.messages.now (answer_of g.A.Answering.answers (asked_by c.args.profile c.args.answering.now)) _ _ _ c.find_in_steps.ensures

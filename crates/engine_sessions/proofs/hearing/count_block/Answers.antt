@@ -1,6 +1,6 @@
 use Rattle.std.proofs.Common.{◌∷◌, ◌++◌, ap, sym, ◌∙◌}
 use Rattle.std.proofs.lemmas.Result.{on_ok_weaker}
-use Rattle.engine_sessions.proofs.Telling.{events_given}
+use Rattle.engine_sessions.proofs.ToldText.{events_given}
 use Rattle.engine_sessions.proofs.hearing.count_block.Goals as goal
 
 -- src/hearing.rt:26:1

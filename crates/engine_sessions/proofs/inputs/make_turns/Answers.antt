@@ -27,8 +27,8 @@ returns-then-not-outcome g c =
     let ok = subst (λ m. TurnsTold (answer_of g.A.Answering.answers c.loop-made.session.answering) (IsTold (g.L.Listener.says c.loop-made.listener) (g.L.Listener.says c.turn_told.new.listener)) m c.in_ok-outcome.outcome.finds (at c.loop-made.session (g.R.Source.shown c.loop-made.input) (g.W.Sink.shown c.loop-made.output)) (at c.turn_told.new.session (g.R.Source.shown c.turn_told.new.input) (g.W.Sink.shown c.turn_told.new.output)))
     (not-true c.in_ok-outcome.outcome.more c.if-not-outcome.true) c.in_ok-outcome.ensures.ok in
     let turn = subst (λ a. TurnsTold (answer_of g.A.Answering.answers a) (IsTold (g.L.Listener.says c.loop-made.listener) (g.L.Listener.says c.turn_told.new.listener)) false c.in_ok-outcome.outcome.finds (at c.loop-made.session (g.R.Source.shown c.loop-made.input) (g.W.Sink.shown c.loop-made.output)) (at c.turn_told.new.session (g.R.Source.shown c.turn_told.new.input) (g.W.Sink.shown c.turn_told.new.output))) s.finding.served.answering ok in
-    heard_finished (answer_of g.A.Answering.answers c.args.session.now.answering) c.args.session.now c.loop-made.session c.turn_told.new.session _ _ _ _ _ _ c.loop-made._made c.loop-made.finds c.in_ok-outcome.outcome.finds
-    (g.L.Listener.says c.args.listener.now) (g.L.Listener.says c.loop-made.listener) (g.L.Listener.says c.turn_told.new.listener) s turn
+    heard_finished (answer_of g.A.Answering.answers c.args.session.now.answering) c.args.session.now c.loop-made.session c.turn_told.new.session _ _ _ _ _ _ c.loop-made._made c.loop-made.finds c.in_ok-outcome.outcome.finds c.has_answered_none-no_block.result
+    (g.L.Listener.says c.args.listener.now) (g.L.Listener.says c.loop-made.listener) (g.L.Listener.says c.turn_told.new.listener) s turn c.has_answered_none-no_block.ensures
 
 pub loop-made-preserved : goal.loop-made-preserved
 loop-made-preserved g c =

@@ -1,4 +1,4 @@
-use Rattle.std.proofs.Common.{rules, ◌++◌, [], Ok, Err, append-nil, refl, ap, ◌∙◌, subst, inr}
+use Rattle.std.proofs.Common.{rules, ◌&&◌, ◌++◌, [], Ok, Err, append-nil, refl, ap, ◌∙◌, subst, inr}
 use Rattle.engine_ends.specs.Sinks.{HandsOn}
 use Rattle.engine_sessions.specs.Tallies.{SaysLast, events_of}
 use Rattle.engine_sessions.specs.Turns.{joined}
@@ -17,7 +17,8 @@ returns-in-Ok g c =
       end = Ok tt;
       out = g.W.Sink.shown c.answer_heard.new.output;
       answers = heard.finds.answers;
-      concludes = subst (λ t. SaysLast t c.say_last.result (g.W.Sink.shown c.answer_heard.new.output) (g.W.Sink.shown c.say_last.new.output) (g.E.Sink.shown c.hand_on.new.sink) (g.E.Sink.shown c.say_last.new.error)) last c.say_last.ensures;
+      concludes = subst (λ none. SaysLast (c.args.telling.no_block && none) (g.T.Tally.says hearing.tally (events_of hearing.profile (hearing.splitter.pending ++ read))) c.say_last.result (g.W.Sink.shown c.answer_heard.new.output) (g.W.Sink.shown c.say_last.new.output) (g.E.Sink.shown c.hand_on.new.sink) (g.E.Sink.shown c.say_last.new.error)) heard.finds.none_is
+          (subst (λ t. SaysLast (c.args.telling.no_block && c.in-Ok.found.no_block) t c.say_last.result (g.W.Sink.shown c.answer_heard.new.output) (g.W.Sink.shown c.say_last.new.output) (g.E.Sink.shown c.hand_on.new.sink) (g.E.Sink.shown c.say_last.new.error)) last c.say_last.ensures);
     })
 
 pub returns-in-Err : goal.returns-in-Err

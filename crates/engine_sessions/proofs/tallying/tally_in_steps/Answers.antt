@@ -14,4 +14,4 @@ returns-in-Ok g c =
     let same = ap {B = Text → Text} (λ t text. g.T.Tally.says t (events_of h.profile (h.splitter.pending ++ text))) made.2
     ∙ ap {B = Text → Text} (λ p text. g.T.Tally.says tally (events_of p (h.splitter.pending ++ text))) made.1
     ∙ ap {B = Text → Text} (λ x text. g.T.Tally.says tally (events_of profile (x ++ text))) made.0 in
-    said_as c.args.for_people c.args.messages.now (answer_of g.A.Answering.answers (asked_by profile c.args.answering.now)) _ _ _ _ _ same c.tally_heard.ensures
+    said_as c.args.telling c.args.messages.now (answer_of g.A.Answering.answers (asked_by profile c.args.answering.now)) _ _ _ _ _ same c.tally_heard.ensures

@@ -1,13 +1,12 @@
-use Rattle.std.proofs.Common.{◌≡◌, ◌∷◌, ℕ, Bool, true, false, cond, Option, Some, None, is_some, option_map, codes, refl, ap, ◌∙◌}
+use Rattle.std.proofs.Common.{◌≡◌, cond, Option, None, is_some, option_map, codes, refl, ap, ◌∙◌}
 use Rattle.std.specs.Option.{option_and_then, option_or}
-use Rattle.text_bytes.specs.Names.{digit_zero}
 use Rattle.text_bytes.specs.declared.profile.Profile.{Profile}
 use Rattle.text_bytes.specs.declared.profile.Profile.TheVariants.{Manual, Udev}
 use Rattle.text_bytes.specs.Text.{Text}
 use Rattle.text_tables.specs.Pairs.{value_of}
 use Rattle.device_core.specs.Values.{EventValue, NumberValue}
 use Rattle.eval_assignments.specs.Modes.{four_digits}
-use Rattle.eval_unread.specs.KernelModes.{kernel_mode, node_mode, written_mode}
+use Rattle.eval_unread.specs.KernelModes.{kernel_mode, written_mode}
 use Rattle.eval_unread.proofs.laws.the_mode_of_a_node_is_the_kernels_unless_rules_set_one.Goals as goal
 
 -- a device without a number has none, by either profile

@@ -4,4 +4,4 @@ use Rattle.example_laws.proofs.events.people_are_told_what_is_wrong_with_a_block
 
 pub returns : goal.returns
 unfolding computed
-returns c = refl
+returns c = record { none = refl; unasked = refl; some = refl; faulty = refl }

@@ -1,7 +1,7 @@
 use Rattle.std.proofs.Common.{◌≡◌, ◌++◌, [], append-nil, IfOk, ap, sym, ◌∙◌, subst}
 use Rattle.device_core.specs.Splits.{completed}
 use Rattle.engine_sessions.specs.Tallies.{events_in, events_of}
-use Rattle.engine_sessions.proofs.Telling.{last_told}
+use Rattle.engine_sessions.proofs.ToldText.{last_told}
 use Rattle.engine_sessions.proofs.hearing.Hearing.end.Goals as goal
 
 pub returns-in_ok-count_if_complete-in-Ok : goal.returns-in_ok-count_if_complete-in-Ok

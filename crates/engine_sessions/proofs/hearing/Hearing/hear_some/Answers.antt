@@ -1,6 +1,6 @@
 use Rattle.std.proofs.Common.{refl, ◌++◌, take}
 use Rattle.engine_sessions.proofs.KnownLemmas.{rest_after}
-use Rattle.engine_sessions.proofs.Telling.{told_by}
+use Rattle.engine_sessions.proofs.ToldText.{told_by}
 use Rattle.engine_sessions.proofs.hearing.Hearing.hear_some.Goals as goal
 
 pub invariant_of-self : goal.invariant_of-self

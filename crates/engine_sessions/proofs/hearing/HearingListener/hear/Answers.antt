@@ -2,7 +2,7 @@ use Rattle.std.proofs.Common.{arith, refl, ◌++◌}
 use Rattle.std.proofs.lemmas.Grind.{common_steps}
 use Rattle.engine_sessions.specs.Tallies.{events_of}
 use Rattle.engine_sessions.proofs.TurnLemmas.{rest_of_slice}
-use Rattle.engine_sessions.proofs.Telling.{told_on}
+use Rattle.engine_sessions.proofs.ToldText.{told_on}
 use Rattle.engine_sessions.proofs.hearing.HearingListener.hear.Goals as goal
 
 pub loop-used-init : goal.loop-used-init

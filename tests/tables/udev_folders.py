@@ -36,6 +36,10 @@ P: /devices/pci0000:00
 """
 
 
+# A device and one above it, without any attribute.
+BARE = "C: add\nP: /devices/p0/x\nU: misc\nP: /devices/p0\nU: platform\n"
+
+
 def node(mode, action="add", number="D: 1:7\n", more=""):
     """A node to which the kernel gives a mode."""
     return f"C: {action}\nP: /devices/virtual/mem/full\nU: mem\n{number}E: DEVMODE={mode}\n{more}"
@@ -119,6 +123,20 @@ NOTED = [
     ("a word that a part of the command line does not have", 'IMPORT{cmdline}=="ab", ENV{A}="1"\nIMPORT{cmdline}!="ab", ENV{B}="1"\nIMPORT{cmdline}!="", ENV{C}="1"\n',
      THING + "K: cmdline.part=x abc\n",
      ["env B=1", "env C=1", "note r.rules:1: import not run: cmdline", "note r.rules:2: import not run: cmdline", "note r.rules:3: import not run: cmdline"]),
+    ("a block without attributes, noted by the first rule that looks at one", 'KERNEL=="none", ENV{A}="1"\nATTRS{idVendor}=="1", ENV{B}="1"\nATTR{size}=="1", ENV{C}="1"\n', BARE,
+     ["note r.rules:2: attributes not given: idVendor"]),
+    ("a block without attributes, and matches of both kinds in a rule", 'ATTRS{b}=="1", ATTR{a}!="1", ENV{A}="1"\n', BARE, ["note r.rules:1: attributes not given: a"]),
+    ("a block without attributes, and a match by !=", 'ATTR{a}!="1", ENV{A}="1"\n', BARE, ["note r.rules:1: attributes not given: a"]),
+    ("a block without attributes, and a rule that is passed over", 'GOTO="end"\nATTR{a}=="1", ENV{A}="1"\nLABEL="end"\n', BARE, ["note r.rules:2: attributes not given: a"]),
+    ("a block without attributes, and rules that look at none", 'KERNEL=="x", ENV{A}="1", ATTR{a}="1"\nKERNELS=="p0", ENV{B}="$id"\n', BARE, ["env A=1", "env B=p0", "attr a=1"]),
+    ("a block without attributes, and rules that look at those of other devices", 'ATTR{[dmi/id]x}=="1", ENV{A}="1"\nATTR{uevent}=="1", ENV{B}="1"\n', BARE,
+     ["note r.rules:1: attribute not read: [dmi/id]x", "note r.rules:2: attribute not read: uevent"]),
+    ("an attribute of the device is enough", 'ATTRS{a}=="1", ENV{A}="1"\n', BARE.replace("U: misc\n", "U: misc\nA: b=1\n"), []),
+    ("an attribute of a device above is enough", 'ATTR{a}=="1", ENV{A}="1"\n', BARE + "A: b=1\n", []),
+    ("a removed device without attributes", 'ATTR{a}=="1", ENV{A}="1"\n', removed(BARE), []),
+    ("a device without a subsystem and without attributes", 'ATTR{a}=="1", ENV{A}="1"\n', HOST, ["env A=1", NO_EVENT]),
+    ("the note on a block without attributes comes last", 'ATTR{a}=="1", ENV{A}="1"\nSYMLINK+="x"\nENV{B}="$attr{[dmi/id]x}|"\n', BARE,
+     ["env B=|", "note r.rules:2: no device number: SYMLINK", "note r.rules:3: attribute not read: [dmi/id]x", "note r.rules:1: attributes not given: a"]),
     ("all of the command line goes before a part", 'IMPORT{cmdline}!="ab", ENV{A}="1"\n', THING + "K: cmdline=x\nK: cmdline.part=ab\n", ["env A=1"]),
 ]
 
@@ -135,6 +153,7 @@ MANUAL = [
     by_the_manual("by the manual no link is followed", 'ATTR{device/vendor}!="x", ENV{A}="$attr{device/vendor}|"\nTEST!="device/vendor", ENV{B}="1"\nTEST!="device", ENV{C}="1"\n',
                   VIRTIO, "env A=|", "env B=1", "env C=1"),
     by_the_manual("by the manual no folder is asked for", 'ATTR{bdi/x}!="x", ATTR{uevent}!="x", ENV{A}="1"\nATTRS{bdi/x}=="x", ENV{B}="1"\n', VIRTIO, "env A=1"),
+    by_the_manual("by the manual a block without attributes is as good as any", 'ATTR{a}!="1", ENV{A}="1"\n', BARE, "env A=1"),
     by_the_manual("by the manual a device that is removed has its attributes", 'ATTR{size}=="2048", ENV{A}="1"\n', removed(DISK), "env A=1"),
     by_the_manual("by the manual no part of a command line is looked at", 'IMPORT{cmdline}!="ab", ENV{A}="1"\n', THING + "K: cmdline.part=ab\n", "env A=1",
                   "note r.rules:1: import not run: cmdline"),

@@ -17,8 +17,8 @@ use Rattle.engine_sessions.specs.Serves.{AnswersAll, Reports, Serves}
 use Rattle.engine_sessions.specs.Tallies.{SaysAll}
 use Rattle.engine_core.specs.Outcomes.{answer_with, before_input, outcome, reads_modaliases, telling_of, unused_of}
 
--- The messages of an opening, as the line's format shows them, the answers to an input after them, and, if the line asks for that, the rules that are unused after
--- these, step by step.
+-- The messages of an opening, as the line's format shows them, the answers to an input after them, and, if the line asks for that,
+-- the rules that are unused after these, step by step.
 pub record AnswersBy (line : Line) (found : FilesFound) (opening : OpeningValue) (status : ℕ) (before now : Streams) : Type 0 where
   pub says : line.unused ≡ true
       → SaysAll (telling_of line) (shown_in line.format opening.messages) (answer_with line found opening) (unused_of line found opening) status before now

@@ -122,6 +122,7 @@ kind_long AttributeNotRead = omega arith
 kind_long AttributeNotFound = omega arith
 kind_long BuiltinNeeds = omega arith
 kind_long ConstantNotGiven = omega arith
+kind_long AttributesNotGiven = omega arith
 
 pub word_short : (word : Text) → length (word_part word) ≤ 4 * length word + 2
 word_short word = by (length word == 0)

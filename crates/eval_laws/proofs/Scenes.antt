@@ -41,6 +41,7 @@ kind_light AttributeNotRead = omega arith
 kind_light AttributeNotFound = omega arith
 kind_light BuiltinNeeds = omega arith
 kind_light ConstantNotGiven = omega arith
+kind_light AttributesNotGiven = omega arith
 
 -- the first bytes of a text
 first_light : (most : ℕ) (text : Text) → most ≤ 256 → length (take most text) ≤ 256
@@ -64,6 +65,7 @@ word_light AttributeNotRead text = first_light 32 text (omega arith)
 word_light AttributeNotFound text = first_light 32 text (omega arith)
 word_light BuiltinNeeds text = first_light 256 text (omega arith)
 word_light ConstantNotGiven text = first_light 32 text (omega arith)
+word_light AttributesNotGiven text = first_light 32 text (omega arith)
 
 -- a note about a rule
 pub note_light : (r : Rule) (kind : NoteKind) (text : Text) → note_weight (note_about r kind text) ≤ length r.file + 280

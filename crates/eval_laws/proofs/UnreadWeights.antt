@@ -1,5 +1,5 @@
 -- How many the notes are that searches and assignments leave on attributes that are not read, and what they weigh.
-use Rattle.std.proofs.Common.{◌≡◌, ℕ, ◌+◌, ◌≤◌, Bool, true, false, cond, List, [], ◌∷◌, ◌++◌, length, Option, Some, None, is_some, option_map, codes, refl, arith}
+use Rattle.std.proofs.Common.{◌≡◌, ℕ, ◌+◌, ◌≤◌, Bool, true, false, cond, List, [], ◌∷◌, ◌++◌, length, Option, Some, None, is_some, option_map, option_to_list, codes, refl, arith}
 use Rattle.std.specs.Option.{option_and_then, option_or}
 use Rattle.std.proofs.lemmas.List.{length-append}
 use Rattle.std.proofs.lemmas.List.Sums.{sum_by-append, sum_by-cons}
@@ -16,7 +16,7 @@ use Rattle.builtin_knowledge.specs.Knowledge.{Known}
 use Rattle.eval_state.specs.Notes.{note_about}
 use Rattle.eval_state.specs.Scenes.{start}
 use Rattle.eval_state.specs.declared.note_kind.NoteKind.{NoteKind}
-use Rattle.eval_state.specs.declared.note_kind.NoteKind.TheVariants.{AttributeNotRead}
+use Rattle.eval_state.specs.declared.note_kind.NoteKind.TheVariants.{AttributeNotRead, AttributesNotGiven}
 use Rattle.eval_state.specs.declared.notes.Note.{Note}
 use Rattle.eval_state.specs.declared.scene.Scene.{Scene}
 use Rattle.eval_state.specs.declared.state.State.{State}
@@ -29,6 +29,7 @@ use Rattle.eval_rules.specs.Jumps.{is_passed, sought_after}
 use Rattle.eval_rules.specs.Outcomes.{outcome}
 use Rattle.eval_rules.specs.Steps.{Went, apply, before_sets, plain_step, walk}
 use Rattle.eval_rules.specs.declared.outcome.Outcome.{Outcome}
+use Rattle.eval_unread.specs.Given.{first_looking, gives_none, looked_at, not_given, not_given_by}
 use Rattle.eval_unread.specs.KernelModes.{kernel_mode, with_kernel_mode, written_mode}
 use Rattle.eval_unread.specs.Unread.{rule_unread, rules_unread, search_unread, searched_unread, unread, unread_after, unread_at, unread_by, unread_place, unread_from, unread_of, whole_outcome, with_notes}
 use Rattle.eval_laws.specs.Counts.{most_notes, most_told}
@@ -110,6 +111,28 @@ module _ (w : Note → ℕ) (c : Rule → ℕ) (light : (r : Rule) (kind : NoteK
           let all = sum_by-cons most_unread r rs in
           omega (arith, own, through, both, all)
 
+  -- the note on a block without attributes is about one of the rules
+  looking_light : (rules : List Rule) → sum_by w (option_to_list (first_looking rules)) ≤ sum_by c rules
+  unfolding first_looking
+  looking_light [] = omega arith
+  looking_light (r ∷ rs) = by (looked_at r)
+    where
+      by : (o : Option Text) → sum_by w (option_to_list (option_or (option_map (note_about r AttributesNotGiven) o) (first_looking rs))) ≤ sum_by c (r ∷ rs)
+      by None = let later = looking_light rs in let all = sum_by-cons c r rs in omega (arith, later, all)
+      by (Some name) =
+          let a = light r AttributesNotGiven name in
+          let b = sum_by-cons w (note_about r AttributesNotGiven name) [] in
+          let all = sum_by-cons c r rs in
+          omega (arith, a, b, all)
+
+  pub not_given_light : (profile : Profile) (rules : List Rule) (event : EventValue) → sum_by w (option_to_list (not_given_by profile rules event)) ≤ sum_by c rules
+  not_given_light Manual rules event = omega arith
+  not_given_light Udev rules event = by (gives_none event)
+    where
+      by : (b : Bool) → sum_by w (option_to_list (cond b (first_looking rules) None)) ≤ sum_by c rules
+      by true = looking_light rules
+      by false = omega arith
+
   pub unread_light : (rules : List Rule) (known : Known) (event : EventValue) → sum_by w (unread rules known event) ≤ sum_by most_unread rules
   unread_light rules known event = by event.profile
     where
@@ -163,12 +186,18 @@ told_more (r ∷ rs) =
     let all = sum_by-cons most_told r rs in
     omega (arith, rest, up, sets, own, more, all)
 
-pub told_counted : (rules : List Rule) (known : Known) (event : EventValue) → length (whole_outcome rules known event).notes ≤ sum_by most_told rules
+at_most_one : {X : Type 0} (o : Option X) → length (option_to_list o) ≤ 1
+at_most_one None = omega arith
+at_most_one (Some x) = omega arith
+
+pub told_counted : (rules : List Rule) (known : Known) (event : EventValue) → length (whole_outcome rules known event).notes ≤ sum_by most_told rules + 1
 told_counted rules known event =
     let own = notes_counted rules known event in
     let notes = unread rules known event in
     let more = unread_light (λ note. 1) (λ r. 1) (λ r kind text. omega arith) rules known event in
     let count = ones notes in
     let both = length-append (outcome rules known event).notes notes in
+    let one = at_most_one (not_given rules event) in
+    let with_one = length-append ((outcome rules known event).notes ++ notes) (option_to_list (not_given rules event)) in
     let all = told_more rules in
-    omega (arith, own, more, count, both, all)
+    omega (arith, own, more, count, both, one, with_one, all)

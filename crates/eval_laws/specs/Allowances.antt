@@ -85,9 +85,10 @@ rule_allowance profile len entries r =
 abbrev pub rules_allowance : Profile → ℕ → List Entry → List Rule → ℕ
 rules_allowance profile len entries rules = sum_by (rule_allowance profile len entries) rules
 
--- the notes on attributes that the matches of one device and the assignments of a rule ask for and that are not read: at most one for each
+-- the notes on attributes that the matches of one device and the assignments of a rule ask for and that are not read: at most one for each;
+-- and that on a block without attributes
 abbrev pub unread_allowance : Rule → ℕ
-unread_allowance r = sum_by (λ part. length r.file + 280) r.up + sum_by (λ a. length r.file + 280) r.sets
+unread_allowance r = length r.file + 280 + (sum_by (λ part. length r.file + 280) r.up + sum_by (λ a. length r.file + 280) r.sets)
 
 -- the same by a profile
 abbrev pub notes_allowance : Profile → List Rule → ℕ

@@ -25,7 +25,7 @@ ghost use Rattle.eval_laws.specs.Weights.{outcome_weight};
 /// for each part of a rule 32,896, the length of its attribute and that of its file's name, and in addition for each
 /// IMPORT twice the block and all keys and values of the database, each with one more. For udev the outcome may have
 /// more: the text of each SECLABEL as it is written, the block for each ATTR, 65,536 and the length of its file's name
-/// for each IMPORT, and 280 and the length of its file's name for each match of one device and each assignment.
+/// for each IMPORT, and 280 and the length of its file's name for each rule, for each match of one device and each assignment.
 pub fn an_answer_weighs_no_more_than_is_allowed()
     ensures { (profile : Profile) (rules : List Rule) (known : Known) (block : Text) (event : EventValue) → block_gives block ≡ Ok event
         → outcome_weight (whole_outcome rules known (by_profile profile event)) ≤ most_weight profile (length block) known.entries rules }
@@ -41,8 +41,9 @@ pub fn an_import_leaves_a_second_note_for_udev_alone()
 {}
 
 /// The outcome of an event has no more notes than two for each act of its rules, and one for each other part: each part
-/// is met at most once. Its whole outcome has at most two for each match of one device and each assignment, too.
+/// is met at most once. Its whole outcome has at most two for each match of one device and each assignment, too, and one on a block
+/// without attributes.
 pub fn acts_and_assignments_leave_at_most_two_notes()
     ensures own { (rules : List Rule) (known : Known) (event : EventValue) → length (outcome rules known event).notes ≤ sum_by most_notes rules }
-    ensures whole { (rules : List Rule) (known : Known) (event : EventValue) → length (whole_outcome rules known event).notes ≤ sum_by most_told rules }
+    ensures whole { (rules : List Rule) (known : Known) (event : EventValue) → length (whole_outcome rules known event).notes ≤ sum_by most_told rules + 1 }
 {}

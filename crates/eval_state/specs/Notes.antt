@@ -9,7 +9,7 @@ use Rattle.rule_types.specs.Rules.{Rule}
 use Rattle.eval_state.specs.declared.note_kind.NoteKind.{NoteKind}
 use Rattle.eval_state.specs.declared.note_kind.NoteKind.TheVariants.{ImportNotRun, BuiltinNotRun, BadHwdbArguments, NoAnswer, TestNotMade, SysctlNotRead}
 use Rattle.eval_state.specs.declared.note_kind.NoteKind.TheVariants.{TextTooLong, NameIgnored, NoDeviceNumber, NoValue, LinkIgnored, ModeIgnored}
-use Rattle.eval_state.specs.declared.note_kind.NoteKind.TheVariants.{TagIgnored, AttributeNotRead, AttributeNotFound, BuiltinNeeds, ConstantNotGiven}
+use Rattle.eval_state.specs.declared.note_kind.NoteKind.TheVariants.{TagIgnored, AttributeNotRead, AttributeNotFound, AttributesNotGiven, BuiltinNeeds, ConstantNotGiven}
 use Rattle.eval_state.specs.declared.notes.Note.{Note}
 
 -- the text of each kind of note
@@ -31,6 +31,7 @@ text_of AttributeNotRead = codes "attribute not read"
 text_of AttributeNotFound = codes "attribute not found"
 text_of BuiltinNeeds = codes "builtin needs"
 text_of ConstantNotGiven = codes "constant not given"
+text_of AttributesNotGiven = codes "attributes not given"
 
 -- what a note keeps of a text: the first 256 bytes of what a builtin needs, which may be several names, else the first 32
 abbrev pub kept_word : NoteKind → Text → Text

@@ -46,6 +46,8 @@ pub enum NoteKind {
     BuiltinNeeds,
     /// For udev alone: a match of a constant that the block does not give; the word is the constant's name.
     ConstantNotGiven,
+    /// For udev alone: the block gives no attribute of any device, and a rule has a match of one; the word is the attribute's name.
+    AttributesNotGiven,
 }
 
 impl NoteKind {
@@ -71,6 +73,7 @@ impl NoteKind {
             NoteKind::AttributeNotFound => b"attribute not found",
             NoteKind::BuiltinNeeds => b"builtin needs",
             NoteKind::ConstantNotGiven => b"constant not given",
+            NoteKind::AttributesNotGiven => b"attributes not given",
         }
     }
 }

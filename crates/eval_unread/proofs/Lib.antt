@@ -4,3 +4,4 @@ pub mod Unasked
 pub mod Among
 pub mod Leaving
 pub mod NeedsNumber
+pub mod FirstLooking

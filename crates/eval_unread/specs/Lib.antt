@@ -1,4 +1,5 @@
 pub mod KernelModes
+pub mod Given
 pub mod Unread
 pub mod Others
 pub mod Inner

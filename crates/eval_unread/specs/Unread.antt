@@ -1,6 +1,6 @@
 -- The attributes that the texts of assignments and searches for one device ask for and that a dry run does not read: those that udev
 -- would read of a device that the block does not have, or of which the block tells nothing. Their substitutions are empty.
-use Rattle.std.specs.Prelude.{ℕ, Bool, not, if◌then◌else◌, is_some, List, [], ◌∷◌, ◌++◌, length, Option, Some, None, position}
+use Rattle.std.specs.Prelude.{ℕ, Bool, not, if◌then◌else◌, is_some, List, [], ◌∷◌, ◌++◌, length, Option, Some, None, option_to_list, position}
 use Rattle.std.specs.List.{find, range_with_len}
 use Rattle.std.specs.Option.{option_and_then}
 use Rattle.rule_templates.specs.declared.piece.Piece.{Piece}
@@ -31,6 +31,7 @@ use Rattle.eval_assignments.specs.Steps.{lacks_number, set_step}
 use Rattle.eval_rules.specs.Idle.{is_idle}
 use Rattle.eval_rules.specs.Jumps.{is_passed, sought_after}
 use Rattle.eval_rules.specs.Outcomes.{outcome}
+use Rattle.eval_unread.specs.Given.{not_given}
 use Rattle.eval_unread.specs.KernelModes.{with_kernel_mode}
 use Rattle.eval_rules.specs.Steps.{Went, apply, before_sets, plain_step, walk}
 use Rattle.eval_rules.specs.declared.outcome.Outcome.{Outcome}
@@ -108,9 +109,14 @@ unread rules known event = unread_by event.profile rules known event
 abbrev pub with_notes : List Note → Outcome → Outcome
 with_notes more o = record o { notes = o.notes ++ more }
 
--- an outcome with what is told besides: the notes of the searches and assignments of all rules after its own, and the kernel's mode
+-- an outcome with the notes that are told besides, after its own: those of the searches and assignments of all rules, and that on a block
+-- without attributes
+abbrev pub noted : List Rule → Known → EventValue → Outcome → Outcome
+noted rules known event o = with_notes (option_to_list (not_given rules event)) (with_notes (unread rules known event) o)
+
+-- an outcome with what is told besides: these notes, and the kernel's mode
 abbrev pub completed : List Rule → Known → EventValue → Outcome → Outcome
-completed rules known event o = with_kernel_mode event (with_notes (unread rules known event) o)
+completed rules known event o = with_kernel_mode event (noted rules known event o)
 
 -- the whole outcome of an event, as its answer tells it
 abbrev pub whole_outcome : List Rule → Known → EventValue → Outcome

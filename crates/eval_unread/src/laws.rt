@@ -1,5 +1,7 @@
 //! When a search or an assignment leaves a note, and when none does. Each function here is empty: its contract is the law.
-ghost use Rattle.std.specs.Prelude.{◌≡◌, ◌↔◌, ◌∷◌, ℕ, [], codes, false, if◌then◌else◌, is_some, List, None, Option, Some, true};
+ghost use Rattle.std.specs.Prelude.{◌≡◌, ◌↔◌, ◌∷◌, ◌++◌, ℕ, [], codes, false, if◌then◌else◌, is_none, is_some, List, None, Option, Some, true};
+ghost use Rattle.std.specs.List.{list_all};
+ghost use Rattle.text_bytes.specs.Texts.{is_empty};
 ghost use Rattle.text_bytes.specs.Names.{digit_zero};
 ghost use Rattle.text_tables.specs.Pairs.{value_of};
 ghost use Rattle.rule_types.specs.Topics.{mode_of};
@@ -19,6 +21,9 @@ ghost use Rattle.builtin_knowledge.specs.Knowledge.{Known};
 ghost use Rattle.eval_state.specs.Scenes.{start};
 ghost use Rattle.eval_state.specs.declared.notes.Note.{Note};
 ghost use Rattle.eval_assignments.specs.Names.{is_interface};
+ghost use Rattle.eval_state.specs.Notes.{note_about};
+ghost use Rattle.eval_state.specs.declared.note_kind.NoteKind.TheVariants.{AttributesNotGiven};
+ghost use Rattle.eval_unread.specs.Given.{gives_none, looked_at, not_given};
 ghost use Rattle.eval_unread.specs.Laws.{IsAmong, Leaves};
 ghost use Rattle.eval_unread.specs.Others.{ask_others};
 ghost use Rattle.eval_unread.specs.Unread.{rendered_pieces, unread};
@@ -65,6 +70,26 @@ pub fn texts_are_rendered_for_the_devices_that_their_keys_apply_to()
 pub fn rules_that_ask_for_no_other_device_leave_no_note()
     ensures manual { (rules : List Rule) (known : Known) (event : EventValue) → event.profile ≡ Manual → unread rules known event ≡ [] }
     ensures unasked { (rules : List Rule) (known : Known) (event : EventValue) → ask_others rules ≡ false → unread rules known event ≡ [] }
+{}
+
+/// For udev a block that gives no attribute leaves one note, by the first rule that looks at one. Any other block leaves none, and neither
+/// does one by rules of which none looks at an attribute, or by the manual.
+pub fn a_block_without_attributes_is_noted_by_the_first_rule_that_looks_at_one()
+    ensures noted { (before following : List Rule) (r : Rule) (name : Text) (event : EventValue) → event.profile ≡ Udev → gives_none event ≡ true
+        → list_all (λ (q : Rule). is_none (looked_at q)) before ≡ true → looked_at r ≡ Some name
+        → not_given (before ++ r ∷ following) event ≡ Some (note_about r AttributesNotGiven name) }
+    ensures unlooked { (rules : List Rule) (event : EventValue) → list_all (λ (q : Rule). is_none (looked_at q)) rules ≡ true → not_given rules event ≡ None }
+    ensures given { (rules : List Rule) (event : EventValue) → gives_none event ≡ false → not_given rules event ≡ None }
+    ensures manual { (rules : List Rule) (event : EventValue) → event.profile ≡ Manual → not_given rules event ≡ None }
+{}
+
+/// A block gives an attribute if its event device or one above has one; and one whose device is removed counts as such, since a device
+/// that is gone has none.
+pub fn a_block_gives_attributes_if_a_device_of_it_has_one()
+    ensures gone { (event : EventValue) → event.action ≡ codes "remove" → gives_none event ≡ false }
+    ensures own { (event : EventValue) → is_empty event.device.attrs ≡ false → gives_none event ≡ false }
+    ensures above { (event : EventValue) (before following : List DeviceValue) (d : DeviceValue) → event.parents ≡ before ++ d ∷ following
+        → is_empty d.attrs ≡ false → gives_none event ≡ false }
 {}
 
 /// The mode of the node is the one that rules set. Without one it is for udev that of the property DEVMODE, if the device has a number

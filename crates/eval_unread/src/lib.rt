@@ -7,6 +7,7 @@
 #![tactic(auto)]
 
 mod asked;
+mod given;
 mod kernel_modes;
 mod laws;
 mod others;
@@ -15,6 +16,8 @@ mod watching;
 mod whole;
 
 pub use laws::{
+    a_block_gives_attributes_if_a_device_of_it_has_one,
+    a_block_without_attributes_is_noted_by_the_first_rule_that_looks_at_one,
     a_note_is_left_by_a_search_or_an_assignment_that_asks_for_what_is_not_read,
     rules_that_ask_for_no_other_device_leave_no_note,
     texts_are_rendered_for_the_devices_that_their_keys_apply_to,

@@ -9,7 +9,7 @@ use rule_types::{Assignment, Change, Rule, UpKey};
 use text_bytes::begins_with;
 
 /// Whether a name may lead to another device, or to what a block does not tell.
-fn is_of_others(name: &[u8]) -> bool
+pub(crate) fn is_of_others(name: &[u8]) -> bool
     ensures { result ≡ is_of_others name.now }
 {
     begins_with(b'[', name) || begins_with(b'.', name) || may_be_untold(name)

@@ -4,6 +4,7 @@ ghost use Rattle.eval_state.specs.Scenes.{start};
 ghost use Rattle.eval_unread.specs.Others.{ask_others};
 ghost use Rattle.eval_unread.specs.Unread.{completed, rules_unread, unread, whole_outcome, with_notes};
 
+use crate::given::with_not_given;
 use crate::kernel_modes::with_kernel_mode;
 use crate::watching::noted_after;
 use builtin_knowledge::Knowledge;
@@ -65,7 +66,8 @@ fn with_unread<'o, K: Knowledge>(
 }
 
 /// An outcome with what its answer tells besides: for udev the notes of searches and assignments on attributes that udev would read and a dry run
-/// does not, after its own, and the mode that the kernel gives the node, if no rule set one.
+/// does not, after its own, then one on a block that gives no attribute of any device, about the first that a match of the rules looks at,
+/// and the mode that the kernel gives the node, if no rule set one.
 ///
 /// `asks` says whether the rules ask for attributes of other devices at all, as `ask_others` has it. If memory runs out, the outcome
 /// is dropped.
@@ -80,7 +82,8 @@ pub fn completed<'o, K: Knowledge>(
     requires { asks ≡ ask_others rules.now }
     ensures { IfOk result (λ all. all ≡ completed rules.now (K.known knowledge.now) event.now outcome.entry) }
 {
-    let noted = with_unread(alloc, asks, rules, event, knowledge, outcome)?;
+    let unread = with_unread(alloc, asks, rules, event, knowledge, outcome)?;
+    let noted = with_not_given(alloc, rules, event, unread)?;
     with_kernel_mode(alloc, event, noted)
 }
 

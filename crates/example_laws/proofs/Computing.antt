@@ -153,6 +153,7 @@ use Rattle.engine_answers.specs.Lines.{text_line, pair_line, run_line, block_not
 use Rattle.engine_ends.specs.EventLine.{event_line}
 use Rattle.engine_sessions.specs.BlockFaults.{block_line, block_said}
 use Rattle.eval_courses.specs.Fates.{fate, fates_from, keys_reached}
+use Rattle.eval_unread.specs.Given.{first_looking, first_plain, first_up}
 use Rattle.eval_unread.specs.Unread.{rule_unread, rules_unread, unread_place}
 use Rattle.engine_unused.specs.Rows.{counted, with_fates}
 use Rattle.engine_unused.specs.Unused.{greatest, line_on, lines_by, unmet_text, unused_lines}
@@ -204,7 +205,7 @@ unfoldable evaluating : ⊤
 unfolding star_place named named_place start_env name_text led_place place_above is_unread render udev_value is_not_read udev_subject holds
     holds_at found_place hwdb_of udev_hwdb_of command_words udev_words act_step found has_modalias line_property printed_properties
     file_properties first_unread usb_modalias escape_of set_step is_idle_by run outcome_of walk plain_step result_step steps apply is_not_given
-    cmdline_value rule_unread rules_unread unread_place
+    cmdline_value rule_unread rules_unread unread_place first_plain first_up first_looking
 evaluating = tt
 
 -- those by which what happened is told

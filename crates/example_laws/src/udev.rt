@@ -21,13 +21,17 @@ pub fn udev_takes_texts_otherwise()
         ∷ codes "note r.rules:1: no value: OWNER" ∷ codes "" ∷ []) }
 {}
 
-/// For udev an attribute that is absent fails `==` and `!=`.
+/// For udev an attribute that is absent fails `==` and `!=`. A block that gives no attribute has a note, by the first rule that looks at one.
 pub fn an_attribute_that_is_absent_fails_both_for_udev()
-    ensures { answered_as_udev
+    ensures some { answered_as_udev
         (text (
         codes "ATTR{a}==\"*\", ENV{A}=\"1\"" ∷ codes "ATTR{a}!=\"1\", ENV{B}=\"1\"" ∷ codes "ATTRS{a}!=\"1\", ENV{C}=\"1\"" ∷ []))
-        (codes "C: add\nP: /d\nU: m")
+        (codes "C: add\nP: /d\nU: m\nA: b=1")
         ≡ codes "event add /d\nenv ACTION=add\nenv DEVPATH=/d\nenv SUBSYSTEM=m\n\n" }
+    ensures none { answered_as_udev
+        (codes "KERNEL==\"d\", ENV{A}=\"1\"\nKERNEL==\"e\", ATTRS{b}==\"1\", ATTR{a}!=\"1\"\nATTR{c}==\"1\"")
+        (codes "C: add\nP: /d\nU: m")
+        ≡ codes "event add /d\nenv A=1\nenv ACTION=add\nenv DEVPATH=/d\nenv SUBSYSTEM=m\nnote r.rules:2: attributes not given: a\n\n" }
 {}
 
 /// For udev SYMLINK, OWNER, GROUP, MODE and SECLABEL of a device without a number change nothing, with notes.

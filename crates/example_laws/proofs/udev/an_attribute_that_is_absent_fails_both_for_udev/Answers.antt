@@ -4,4 +4,4 @@ use Rattle.example_laws.proofs.udev.an_attribute_that_is_absent_fails_both_for_u
 
 pub returns : goal.returns
 unfolding computed
-returns c = refl
+returns c = record { some = refl; none = refl }

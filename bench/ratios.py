@@ -28,9 +28,9 @@ TOP = Path(__file__).resolve().parent.parent
 PROGRAM = os.path.realpath(os.environ.get("PROGRAM", TOP / "build/devdry"))
 
 # What is compared: its name; the names of the runs that it takes and of those to subtract, such as the start; how many
-# things a run is over, to give what each takes, or None for the whole run; the runs of the other program and how many
-# things these are over; and the aims, as a ratio, as time or speed, and as MB.
-Row = namedtuple("Row", "name runs start things unit beside aim most", defaults=((), None, "", (), "", None))
+# things a run is over, to give what each takes, or None for the whole run; the runs that it is compared with; the aims, as a
+# ratio, as time or speed, and as MB; and the runs to subtract from those that it is compared with.
+Row = namedtuple("Row", "name runs start things unit beside aim most less", defaults=((), None, "", (), "", None, ()))
 
 EVENTS = 1000
 BYTES = 10 * MILLION
@@ -151,6 +151,10 @@ class Bench:
             "start": self.own("events", "-r", self.root),
             "rules start": self.own("events", "-r", f"{self.work}/copies"),
             "rules": self.own("events", "-r", f"{self.work}/copies", source=blocks),
+            "udev start": self.own("events", "--udev", "-r", f"{self.work}/copies"),
+            "as lines": self.own("events", "--udev", "-r", f"{self.work}/copies", source=blocks),
+            "as JSON": self.own("events", "--udev", "--format=json", "-r", f"{self.work}/copies", source=blocks),
+            "as JSON with sources": self.own("events", "--udev", "--format=json", "--sources", "-r", f"{self.work}/copies", source=blocks),
             "verify": self.own("verify", *paths, statuses=(0, 1)),
             "udevadm verify": self.other("udevadm", "verify", "--no-style", "--resolve-names=never", "--no-summary", *paths, statuses=(0, 1)),
         }
@@ -186,6 +190,8 @@ class Bench:
             yield Row(f"blocks of {properties} properties, ten rules that match nothing", (f"{properties} properties",), ("ten rules",),
                       os.path.getsize(f"{self.work}/{properties}.blocks"), "MB/s", aim="90 MB/s" if properties == 30 else "")
         yield Row(f"an event by {rules:,} rules", ("rules",), ("rules start",), count, "us", aim="30 us")
+        for how, aim in (("as JSON", "1.5"), ("as JSON with sources", "2.5")):
+            yield Row(f"an event {how} with `--udev`", (how,), ("udev start",), count, "us", ("as lines",), aim, less=("udev start",))
         yield Row(f"`verify`, {rules:,} rules", ("verify",), beside=("udevadm verify",))
 
 
@@ -201,14 +207,14 @@ def shown(row, cost, unit):
 def table(bench, word, unit):
     """Prints what each row takes, with its ratio and its aims."""
     rows = [row for row in bench.rows() if word in row.name]
-    names = dict.fromkeys(name for row in rows for name in (*row.runs, *row.start, *row.beside))
+    names = dict.fromkeys(name for row in rows for name in (*row.runs, *row.start, *row.beside, *row.less))
     runs = {name: bench.runs[name] for name in names}
     taken = least(runs, turns=5 if unit == "s" else 2)
     costs = {name: counted(run) for name, run in runs.items()} if unit != "s" else {name: it.seconds for name, it in taken.items()}
     print("| What | Cost | Compared with | Ratio | Aim | Peak memory | Aim |\n|---|---|---|---|---|---|---|")
     for row in rows:
         own = sum(costs[name] for name in row.runs) - sum(costs[name] for name in row.start)
-        other = sum(costs[name] for name in row.beside)
+        other = sum(costs[name] for name in row.beside) - sum(costs[name] for name in row.less)
         cells = [row.name, shown(row, own, unit), f"{' and '.join(row.beside)}: {shown(Row('', ()), other, unit)}" if other else "",
                  f"{own / other:.2f}" if other > (0 if unit == "s" else 1) else "", row.aim, f"{max(taken[name].peak for name in row.runs):.0f} MB", f"{row.most} MB" if row.most else ""]
         print("| " + " | ".join(cells) + " |", flush=True)

@@ -6,3 +6,4 @@ pub mod Known
 pub mod Telling
 pub mod Reported
 pub mod MeantFiles
+pub mod Silent

@@ -38,8 +38,8 @@ fn push_unread_lines(
 /// skips it, or what each of its keys found and how the rule ended, as `eval_courses` reports it. Rules that are
 /// not asked for have no line.
 ///
-/// The rules are evaluated once more for this, as for the answer. Fails if memory runs out; the lines added until
-/// then stay.
+/// The rules are evaluated once more for this, as for the answer, unless nothing is asked for. Fails if memory runs out; the lines
+/// added until then stay.
 #[tactic(auto, unfolding(crate::specs::WhyLines::why_lines))]
 pub fn push_why_lines<K: Knowledge>(
     alloc: Global,
@@ -52,6 +52,9 @@ pub fn push_why_lines<K: Knowledge>(
     ensures { OnOk result (lines.new.items ≡ lines.old.items ++ why_lines (map (λ t. t.now) why.now) rules.now.messages rules.now.rules
         (K.known knowledge.now) event.now) }
 {
+    if why.is_empty() {
+        return Ok(());
+    }
     push_unread_lines(alloc, lines, why, rules.messages(), rules.rules().rules())?;
     let given = tried(event, rules.rules().rules());
     lines.extend_from_slice(&reported_lines(alloc, why, given, event, knowledge)?)

@@ -1,0 +1,48 @@
+-- Where no text asks for anything, nothing is told.
+use Rattle.std.proofs.Common.{◌≡◌, Bool, true, false, cond, List, [], ◌∷◌, ◌++◌, Option, None, flat_map, append-nil, refl, ap, sym, ◌∙◌}
+use Rattle.file_messages.specs.declared.message.Message.{Message}
+use Rattle.text_bytes.specs.Text.{Text}
+use Rattle.rule_types.specs.Rules.{Rule}
+use Rattle.device_core.specs.Values.{EventValue}
+use Rattle.device_notes.specs.Tried.{tried}
+use Rattle.builtin_knowledge.specs.Knowledge.{Known}
+use Rattle.eval_state.specs.Scenes.{start}
+use Rattle.eval_state.specs.declared.scene.Scene.{Scene}
+use Rattle.eval_rules.specs.Jumps.{is_passed}
+use Rattle.eval_rules.specs.Steps.{apply}
+use Rattle.eval_effects.specs.Since.{Since, no_since, since_after}
+use Rattle.engine_courses.specs.Asked.{unread}
+use Rattle.engine_courses.specs.WhyLines.{jumping_after, reported_from, rule_lines, sought_by, unread_lines, why_lines}
+
+none_reported : (known : Known) (since : Since) (jumping : Option Rule) (rules : List Rule) (s : Scene) → reported_from [] known since jumping rules s ≡ []
+unfolding reported_from
+none_reported known since jumping [] s = refl
+none_reported known since jumping (r ∷ rs) s = by (is_passed (sought_by jumping) r)
+  where
+    over : List (Rule × List Text)
+    over = reported_from [] known since jumping rs s
+
+    through : List (Rule × List Text)
+    through = reported_from [] known (since_after since r (apply known r s).0.finals) (jumping_after (apply known r s).1 r) rs (apply known r s).0
+
+    by : (b : Bool) → cond b over through ≡ []
+    by true = none_reported known since jumping rs s
+    by false = none_reported known (since_after since r (apply known r s).0.finals) (jumping_after (apply known r s).1 r) rs (apply known r s).0
+
+none_unread : (messages : List Message) (rules : List Rule) → unread [] messages rules ≡ []
+unfolding unread
+none_unread [] rules = refl
+none_unread (m ∷ messages) rules = none_unread messages rules
+
+-- without a text there are no lines
+pub none_told : (messages : List Message) (rules : List Rule) (known : Known) (event : EventValue) → why_lines [] messages rules known event ≡ []
+unfolding why_lines
+none_told messages rules known event =
+    ap (λ (left : List Message). unread_lines left ++ flat_map rule_lines (reported_from [] known no_since None (tried event rules) (start event))) (none_unread messages rules)
+    ∙ ap (flat_map rule_lines) (none_reported known no_since None (tried event rules) (start event))
+
+-- lines stay as they are if nothing is added
+pub stays : (lines : Text) (why : List Text) (messages : List Message) (rules : List Rule) (known : Known) (event : EventValue) → why ≡ []
+    → lines ≡ lines ++ why_lines why messages rules known event
+stays lines why messages rules known event none =
+    sym (ap (λ (texts : List Text). lines ++ why_lines texts messages rules known event) none ∙ ap (λ (more : Text). lines ++ more) (none_told messages rules known event) ∙ append-nil lines)

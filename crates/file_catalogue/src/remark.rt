@@ -188,9 +188,13 @@ impl Remark {
     pub fn push_heading(self, text: &mut Vec<u8>) -> Result<(), AllocError>
         ensures { OnOk result (text.new.items ≡ text.old.items ++ remark_heading self) }
     {
-        text.extend_from_slice(self.code())?;
+        let (code, said) = match self.row() {
+            Some(row) => (row.1, row.2),
+            None => ("", ""),
+        };
+        text.extend_from_slice(code.as_bytes())?;
         text.push(b' ')?;
-        text.extend_from_slice(self.text())
+        text.extend_from_slice(said.as_bytes())
     }
 
     /// How severe a remark is, which the letter of its code says: V, H and L are errors, S, I, W

@@ -23,12 +23,11 @@ use Rattle.devdry_words.specs.Lines.{color_name, color_named, color_of, files_of
 use Rattle.text_bytes.specs.Texts.{split_once}
 use Rattle.text_bytes.specs.declared.profile.Profile.{Profile}
 use Rattle.text_bytes.specs.declared.profile.Profile.TheVariants.{Manual, Udev}
-use Rattle.engine_formats.specs.Remarks.{heading_parts}
-use Rattle.devdry_words.specs.Refusals.{known_codes, listed, refusal_of}
+use Rattle.devdry_words.specs.Refusals.{refusal_of}
 use Rattle.devdry_options.specs.Names.{flag_names, repeated_names, valued_names}
 use Rattle.devdry_words.specs.Options.{options_in, with_options}
 use Rattle.devdry_words.specs.Requests.{added_of, side_files, side_root}
-use Rattle.engine_formats.specs.Ignored.{cut_at_commas}
+use Rattle.file_catalogue.specs.Ignored.{cut_at_commas}
 use Rattle.devdry_words.specs.Values.{is_set, texts_of, text_of}
 
 abbrev query_words : List Text
@@ -296,7 +295,3 @@ each_color_is_found : (c : Color) → color_named (color_name c) ≡ Some c
 each_color_is_found Auto = refl
 each_color_is_found Always = refl
 each_color_is_found Never = refl
-
-pub each_code_is_listed : codes "V1, V2, V3, V4, V5, V6, V7, V8, V9, V10, V11, V12, V13, V14, V15, V16, V17, V18, V19, V20, V21, V22, V23, V24, V25, V26, S1, S2, S3, S4, S5, S6, H1, H2, H3, H4, H5, H6, W1, W2, W3, W4, W5, W6, W7, W8, W9, W10, W11, W12, W13, W14, W15, W16, W17, W18, W19, W20, W21, W22, W23, W24, W25, W26, W27, D1, D2, D3, D4, D5, D6, D7, D8, D9, D10, D11, D12, D13, L1, L2, L3, L4, L5, I1, I2" ≡ known_codes
-unfolding known_codes listed heading_parts split_once
-each_code_is_listed = refl

@@ -6,11 +6,9 @@ use Rattle.clap.proofs.OnLiterals.{clap_on_literals}
 use Rattle.devdry_words.specs.Commands.{devdry}
 use Rattle.devdry_words.specs.declared.refusals.Refusal.{Refusal}
 use Rattle.devdry_words.specs.declared.refusals.Refusal.TheVariants.{TwoDatabases, LinksAsRules, AddedToNamed, AddedToRules, AddedToIndex, TwoAnswers, LinesBesideJson, InputTwice, UnreadInput, EmptyRoot, EmptySide, NoUdev, UnknownFormat, NoAnswerFormat, UnknownColor, UnknownPart, NotRules, NotFile}
-use Rattle.text_bytes.specs.Texts.{split_once}
-use Rattle.engine_formats.specs.Codes.{remark_of}
-use Rattle.engine_formats.specs.Remarks.{heading_parts}
+use Rattle.file_catalogue.specs.Catalogue.{all_codes, lints, messages, remark_of}
 use Rattle.devdry_words.specs.Refusals.{refusal_of, unknown_part}
-use Rattle.engine_formats.specs.Ignored.{codes_with}
+use Rattle.file_catalogue.specs.Ignored.{is_class}
 
 -- what is refused of words that clap takes
 abbrev refused : List Text → Option (Option Refusal)
@@ -152,19 +150,19 @@ abbrev unknown : List Text → Option (Option Text)
 unknown words = option_map (λ p. unknown_part p.1) (subcommand_of devdry words)
 
 first_unknown_is_found : unknown (codes "verify" ∷ codes "--ignore" ∷ codes "V6,comments" ∷ codes "--ignore=S2,X6,v6" ∷ []) ≡ Some (Some (codes "X6"))
-unfolding clap_on_literals devdry remark_of heading_parts split_once
+unfolding clap_on_literals devdry remark_of is_class all_codes messages lints
 first_unknown_is_found = refl
 
 known_codes_are_taken : refused (codes "update" ∷ codes "--ignore" ∷ codes "H1,W13,I1" ∷ codes "--ignore=comments" ∷ []) ≡ Some None
-unfolding clap_on_literals devdry remark_of heading_parts split_once
+unfolding clap_on_literals devdry remark_of is_class all_codes messages lints
 known_codes_are_taken = refl
 
 small_letter_is_refused : refused (codes "verify" ∷ codes "--ignore=v6" ∷ []) ≡ Some (Some UnknownPart)
-unfolding clap_on_literals devdry remark_of heading_parts split_once
+unfolding clap_on_literals devdry remark_of is_class all_codes messages lints
 small_letter_is_refused = refl
 
 no_code_is_refused : refused (codes "verify" ∷ codes "--ignore=" ∷ []) ≡ Some (Some UnknownPart)
-unfolding clap_on_literals devdry remark_of heading_parts split_once
+unfolding clap_on_literals devdry remark_of is_class all_codes messages lints
 no_code_is_refused = refl
 
 no_root_is_taken : refused (codes "verify" ∷ codes "--all" ∷ []) ≡ Some None
@@ -180,9 +178,9 @@ unfolding clap_on_literals devdry
 strict_knows_users = refl
 
 classes_are_taken : refused (codes "verify" ∷ codes "--ignore" ∷ codes "S,W13,I" ∷ []) ≡ Some None
-unfolding clap_on_literals devdry remark_of heading_parts split_once codes_with
+unfolding clap_on_literals devdry remark_of is_class all_codes messages lints
 classes_are_taken = refl
 
 no_class_is_refused : refused (codes "verify" ∷ codes "--ignore" ∷ codes "s" ∷ []) ≡ Some (Some UnknownPart)
-unfolding clap_on_literals devdry remark_of heading_parts split_once codes_with
+unfolding clap_on_literals devdry remark_of is_class all_codes messages lints
 no_class_is_refused = refl

@@ -1,14 +1,14 @@
 -- The answer to words that do not ask for a run.
-use Rattle.std.specs.Prelude.{◌≡◌, ◌⊎◌, ◌++◌, ⊤, List, [], Option, None, IsSomeAnd, MatchOption, codes, string_bytes}
+use Rattle.std.specs.Prelude.{◌≡◌, ◌⊎◌, ◌++◌, ⊤, List, [], Option, Some, None, IsSomeAnd, MatchOption, codes, string_bytes}
 use Rattle.clap.specs.Words.{IsAmong, Kinds, Row, Text}
 use Rattle.clap.specs.declared.error.kind.ErrorKind.{ErrorKind}
 use Rattle.clap.specs.declared.error.kind.ErrorKind.TheVariants as kind
 use Rattle.engine_ends.specs.declared.line.LineFault.{LineFault}
 use Rattle.engine_ends.specs.declared.line.LineFault.TheVariants.{Help, Usage, Memory}
-use Rattle.devdry_explanations.specs.Codes.{remark_with}
-use Rattle.devdry_explanations.specs.Sections.{IsSectionOn}
+use Rattle.file_catalogue.specs.Catalogue.{known_codes}
+use Rattle.file_catalogue.specs.Sections.{explanation}
 use Rattle.devdry_words.specs.declared.subcommands.Subcommand.TheVariants.{Explain}
-use Rattle.devdry_words.specs.Refusals.{invalid_value, known_codes, refusal_of, said_of}
+use Rattle.devdry_words.specs.Refusals.{invalid_value, refusal_of, said_of}
 use Rattle.devdry_words.specs.Requests.{subcommand_name}
 use Rattle.devdry_words.specs.Values.{text_of}
 
@@ -20,15 +20,15 @@ AsksForHelp k = (k ≡ kind.DisplayHelp) ⊎ (k ≡ kind.DisplayVersion)
 abbrev pub no_such_code : Text
 no_such_code = codes "' for '<CODE>'\n  [possible values: " ++ known_codes ++ codes "]\n\nFor more information, try '--help'.\n"
 
--- help that `devdry` itself gives on the matches of a subcommand: for `explain` the section on the remark with the code
+-- help that `devdry` itself gives on the matches of a subcommand: for `explain` the section on the code
 abbrev pub IsHelpOn : Text → List Row → Text → Type 0
 IsHelpOn name rows text = (refusal_of name rows ≡ None) × (subcommand_name Explain ≡ name)
-    × IsSomeAnd (remark_with (text_of (codes "CODE") rows)) (λ remark. IsSectionOn remark text)
+    × (explanation (text_of (codes "CODE") rows) ≡ Some text)
 
--- usage that it gives: why they are refused, or for `explain` that no remark has the code
+-- usage that it gives: why they are refused, or for `explain` that no section is on the code
 abbrev pub IsUsageOn : Text → List Row → Text → Type 0
 IsUsageOn name rows text = MatchOption (refusal_of name rows)
-    ((subcommand_name Explain ≡ name) × (remark_with (text_of (codes "CODE") rows) ≡ None)
+    ((subcommand_name Explain ≡ name) × (explanation (text_of (codes "CODE") rows) ≡ None)
     × (text ≡ invalid_value (text_of (codes "CODE") rows) no_such_code)) (λ r. text ≡ said_of r rows)
 
 -- Help and usage answer one of the kinds of clap's errors; or there are none, and they are what `devdry` itself gives on

@@ -12,7 +12,7 @@ use Rattle.engine_ends.specs.declared.line.Format.TheVariants.{Plain, Gcc, Githu
 use Rattle.engine_ends.specs.declared.line.Line.{Line}
 use Rattle.engine_ends.specs.declared.line.Verb.{Verb}
 use Rattle.engine_ends.specs.declared.line.Verb.TheVariants.{Update, Query, Verify, Events, Mend}
-use Rattle.engine_formats.specs.Ignored.{ignored_codes}
+use Rattle.file_catalogue.specs.Ignored.{ignored_codes}
 use Rattle.text_bytes.specs.declared.profile.Profile.{Profile}
 use Rattle.text_bytes.specs.declared.profile.Profile.TheVariants.{Manual, Udev}
 use Rattle.devdry_words.specs.Values.{is_set, text_of, texts_of}

@@ -4,8 +4,7 @@ use Rattle.clap.specs.Words.{Row, Text}
 use Rattle.clap.specs.declared.error.kind.ErrorKind.{ErrorKind}
 use Rattle.engine_ends.specs.declared.line.LineFault.{LineFault}
 use Rattle.engine_ends.specs.declared.line.LineFault.TheVariants.{Help, Usage, Memory}
-use Rattle.devdry_explanations.specs.Codes.{remark_with}
-use Rattle.devdry_explanations.specs.Sections.{IsSectionOn}
+use Rattle.file_catalogue.specs.Sections.{explanation}
 use Rattle.devdry_words.specs.Answers.{AsksForHelp, no_such_code}
 use Rattle.devdry_words.specs.Refusals.{invalid_value, refusal_of, said_of}
 use Rattle.devdry_words.specs.Requests.{subcommand_name}
@@ -39,10 +38,10 @@ IsHelpWith P (Help text) = P (string_bytes text)
 IsHelpWith P (Usage text) = ⊥
 IsHelpWith P Memory = ⊤
 
--- a code is answered with the section on its remark, and a text that is not a code with usage that lists the codes
+-- a code is answered with the section on it, and a text that is not a code with usage that lists the codes
 abbrev pub Explains : Text → LineFault → Type 0
 Explains code fault =
-    MatchOption (remark_with code) (IsUsageOf (invalid_value code no_such_code) fault) (λ remark. IsHelpWith (IsSectionOn remark) fault)
+    MatchOption (explanation code) (IsUsageOf (invalid_value code no_such_code) fault) (λ section. IsHelpWith (λ said. said ≡ section) fault)
 
 -- why the matches of a subcommand are refused, or for `explain` the section
 abbrev pub AnswersMatches : Text → List Row → LineFault → Type 0

@@ -9,9 +9,8 @@ use Rattle.text_bytes.specs.Kinds.{suffix_of}
 use Rattle.text_bytes.specs.declared.source_file.FileKind.TheVariants.{Hwdb, Rules}
 use Rattle.engine_ends.specs.declared.line.Format.{Format}
 use Rattle.engine_ends.specs.declared.line.Format.TheVariants.{Plain, Json, Human}
-use Rattle.engine_formats.specs.Codes.{remarks}
-use Rattle.engine_formats.specs.Ignored.{unknown_ignored}
-use Rattle.engine_formats.specs.Remarks.{code_of}
+use Rattle.file_catalogue.specs.Catalogue.{known_codes}
+use Rattle.file_catalogue.specs.Ignored.{unknown_ignored}
 use Rattle.devdry_words.specs.declared.refusals.Refusal.{Refusal}
 use Rattle.devdry_words.specs.declared.refusals.Refusal.TheVariants.{TwoDatabases, LinksAsRules, AddedToNamed, AddedToRules, AddedToIndex, TwoAnswers}
 use Rattle.devdry_words.specs.declared.refusals.Refusal.TheVariants.{LinesBesideJson, InputTwice, UnreadInput}
@@ -181,16 +180,6 @@ no_answer_format = codes "' for '--format <FORMAT>'\n  [possible values: plain, 
 -- what is said after the name of what is no way to ask for colors
 abbrev pub no_such_color : Text
 no_such_color = codes "' for '--color <WHEN>'\n  [possible values: auto, always, never]\n\nFor more information, try '--help'.\n"
-
--- texts, with a comma and a space between two
-unfoldable pub listed : List Text → Text
-listed [] = []
-listed (text ∷ []) = text
-listed (text ∷ next ∷ others) = text ++ codes ", " ++ listed (next ∷ others)
-
--- the codes of all remarks
-unfoldable pub known_codes : Text
-known_codes = listed (map code_of remarks)
 
 -- what is said after a part of `--ignore` that is neither a code nor a class nor the word `comments`
 abbrev pub not_ignorable : Text

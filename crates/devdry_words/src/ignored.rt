@@ -3,11 +3,11 @@ ghost use Rattle.std.specs.Prelude.{◌≡◌, IfOk, codes, map, option_map, unw
 ghost use Rattle.clap.specs.Words.{found_of, rows_of};
 ghost use Rattle.devdry_words.specs.Refusals.{unknown_part};
 ghost use Rattle.devdry_words.specs.Values.{texts_of};
-ghost use Rattle.engine_formats.specs.Ignored.{ignored_codes};
+ghost use Rattle.file_catalogue.specs.Ignored.{ignored_codes};
 
 use crate::values::{every_value, texts};
 use clap::ArgMatches;
-use engine_formats::{ignored_codes as ignored_codes_of, unknown_ignored};
+use file_catalogue::{ignored_codes as ignored_codes_of, unknown_ignored};
 use std::alloc::{AllocError, Global};
 
 /// What the values of `--ignore` name, in their order.

@@ -9,9 +9,9 @@ use Rattle.hwdb_lints.specs.Lints.{database_lints}
 use Rattle.rule_file_lints.specs.FileLints.{placed_lints}
 use Rattle.engine_ends.specs.declared.line.Line.{Line}
 use Rattle.engine_formats.specs.Diagnostics.{DiagnosticValue}
-use Rattle.engine_formats.specs.Remarks.{code_of}
-use Rattle.engine_formats.specs.declared.remark.Remark.{Remark}
-use Rattle.engine_formats.specs.declared.remark.Remark.TheVariants.{Message, Lint, DatabaseLint, LinkFault, IdleIgnore, UnknownCode}
+use Rattle.file_catalogue.specs.Catalogue.{code_of}
+use Rattle.file_catalogue.specs.declared.remark.Remark.{Remark}
+use Rattle.file_catalogue.specs.declared.remark.Remark.TheVariants.{Message, Lint, DatabaseLint, LinkFault, IdleIgnore, UnknownCode}
 use Rattle.engine_checks.specs.Codes.{has_comments, is_found}
 use Rattle.engine_checks.specs.Files.{asked_by, database_diagnostic, database_found, database_found_with, database_lint_diagnostic, database_lints_counted, database_reported, file_text, findings_of, found_with, ignored_by, ignores_counted, lint_diagnostic, lints_counted, rule_diagnostic, rules_found, rules_reported}
 use Rattle.engine_checks.specs.Ignores.{Ignore, ignores_in}

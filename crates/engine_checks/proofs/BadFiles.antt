@@ -24,8 +24,8 @@ use Rattle.engine_reports.specs.Checks.{bad_count, files_said, summary_line, ver
 use Rattle.engine_formats.specs.Diagnostics.{DiagnosticValue}
 use Rattle.engine_formats.specs.Formats.{formatted}
 use Rattle.engine_formats.specs.Lines.{plain_line}
-use Rattle.engine_formats.specs.Remarks.{remark_heading}
-use Rattle.engine_formats.specs.declared.remark.Remark.{Remark}
+use Rattle.file_catalogue.specs.Catalogue.{remark_heading}
+use Rattle.file_catalogue.specs.declared.remark.Remark.{Remark}
 use Rattle.engine_checks.specs.Files.{accounts_by, file_text, ignored_by, ignores_counted, lint_diagnostic, lints_counted, rule_diagnostic, rules_reported}
 use Rattle.engine_checks.specs.Ignores.{Ignore}
 use Rattle.engine_checks.specs.Outcomes.{in_format, rules_checks}

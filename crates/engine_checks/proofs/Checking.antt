@@ -18,8 +18,8 @@ use Rattle.engine_reports.specs.Outcomes.{too_many_rules}
 use Rattle.engine_reports.proofs.Bounds.{entries_refused, outcome_few}
 use Rattle.engine_reports.specs.Reports.{IsSaid, refused_entries}
 use Rattle.engine_formats.specs.Diagnostics.{DiagnosticValue}
-use Rattle.engine_formats.specs.Remarks.{code_of}
-use Rattle.engine_formats.specs.declared.remark.Remark.{Remark}
+use Rattle.file_catalogue.specs.Catalogue.{code_of}
+use Rattle.file_catalogue.specs.declared.remark.Remark.{Remark}
 use Rattle.engine_checks.specs.Codes.{comments_word, has_comments}
 use Rattle.engine_checks.specs.Files.{accounts_by, asked_by, database_found, database_found_with, database_reported, file_text, findings_of, found_with, ignored_by, ignores_counted, lints_counted, reported_for, rules_found, rules_reported}
 use Rattle.engine_checks.specs.Ignores.{Ignore, ignores_in}

@@ -8,9 +8,9 @@ use Rattle.std.proofs.lemmas.List.Folds.{list_any_at}
 use Rattle.text_bytes.specs.Text.{Text}
 use Rattle.text_tables.specs.Texts.{is_among, same_text}
 use Rattle.engine_formats.specs.Diagnostics.{DiagnosticValue}
-use Rattle.engine_formats.specs.Remarks.{code_of}
-use Rattle.engine_formats.specs.declared.remark.Remark.{Remark}
-use Rattle.engine_formats.specs.declared.remark.Remark.TheVariants.{IdleIgnore, UnknownCode}
+use Rattle.file_catalogue.specs.Catalogue.{code_of}
+use Rattle.file_catalogue.specs.declared.remark.Remark.{Remark}
+use Rattle.file_catalogue.specs.declared.remark.Remark.TheVariants.{IdleIgnore, UnknownCode}
 use Rattle.engine_checks.specs.Codes.{is_code, is_found}
 use Rattle.engine_checks.specs.Ignores.{Ignore}
 use Rattle.engine_checks.specs.Laws.{IsInUse, IsLeftOut, IsSaidOf, IsSilencing, IsUnknown}

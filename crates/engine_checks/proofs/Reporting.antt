@@ -5,7 +5,7 @@ use Rattle.std.proofs.lemmas.List.{take_more}
 use Rattle.std.proofs.lemmas.List.Elements.{filter_map-append}
 use Rattle.text_bytes.specs.Text.{Text}
 use Rattle.engine_formats.specs.Diagnostics.{DiagnosticValue}
-use Rattle.engine_formats.specs.declared.remark.Remark.TheVariants.{IdleIgnore, UnknownCode}
+use Rattle.file_catalogue.specs.declared.remark.Remark.TheVariants.{IdleIgnore, UnknownCode}
 use Rattle.engine_checks.specs.Ignores.{Ignore}
 use Rattle.engine_checks.specs.Tables.{are_silencing, is_met, is_reported_by, remark_by}
 use Rattle.engine_checks.specs.Reported.{Asked, FileText, merged, comment_diagnostic, comment_diagnostics, file_reported, is_asked, is_reported, is_silenced, is_unknown, remark_on, silences}

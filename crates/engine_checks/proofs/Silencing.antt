@@ -7,7 +7,7 @@ use Rattle.std.proofs.lemmas.Bool.{eq-eqb, eqb-true}
 use Rattle.text_bytes.specs.Text.{Text}
 use Rattle.text_tables.specs.Texts.{is_among, same_text}
 use Rattle.engine_formats.specs.Diagnostics.{DiagnosticValue}
-use Rattle.engine_formats.specs.Remarks.{code_of}
+use Rattle.file_catalogue.specs.Catalogue.{code_of}
 use Rattle.engine_checks.specs.Ignores.{Ignore}
 use Rattle.engine_checks.specs.Tables.{are_silencing, has_code, has_code_at, has_code_in, is_code_at, is_file, is_in_file, is_met, is_next_at, next_line}
 use Rattle.engine_checks.specs.Reported.{covers, is_silenced, silences}

@@ -37,7 +37,7 @@ use Rattle.rule_remarks.proofs.ByLines.{both_rise}
 use Rattle.engine_ends.specs.declared.line.Line.{Line}
 use Rattle.engine_formats.specs.Diagnostics.{DiagnosticValue}
 use Rattle.engine_formats.specs.Lines.{plain_line}
-use Rattle.engine_formats.specs.declared.remark.Remark.TheVariants as about
+use Rattle.file_catalogue.specs.declared.remark.Remark.TheVariants as about
 use Rattle.engine_checks.specs.Codes.{has_comments}
 use Rattle.engine_checks.specs.Files.{file_text, ignores_counted, lint_diagnostic, rule_diagnostic}
 use Rattle.engine_checks.specs.Ignores.{Ignore, ignores_in}

@@ -32,8 +32,8 @@ use Rattle.engine_formats.specs.Diagnostics.{DiagnosticValue}
 use Rattle.engine_formats.specs.Formats.{formatted}
 use Rattle.engine_formats.specs.Lines.{plain_line}
 use Rattle.engine_formats.specs.Placing.{placed}
-use Rattle.engine_formats.specs.Remarks.{remark_heading}
-use Rattle.engine_formats.specs.declared.remark.Remark.TheVariants as about
+use Rattle.file_catalogue.specs.Catalogue.{remark_heading}
+use Rattle.file_catalogue.specs.declared.remark.Remark.TheVariants as about
 use Rattle.engine_checks.specs.Codes.{has_comments}
 use Rattle.engine_checks.specs.Files.{accounts_by, database_diagnostic, database_found_with, database_reported, file_text, ignored_by, ignores_counted}
 use Rattle.engine_checks.specs.Ignores.{ignores_in}

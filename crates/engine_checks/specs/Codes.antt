@@ -3,9 +3,9 @@ use Rattle.std.specs.Prelude.{Bool, true, false, List, codes}
 use Rattle.std.specs.Option.{option_map_or}
 use Rattle.text_bytes.specs.Text.{Text}
 use Rattle.text_tables.specs.Texts.{is_among}
-use Rattle.engine_formats.specs.Codes.{remark_of}
-use Rattle.engine_formats.specs.declared.remark.Remark.{Remark}
-use Rattle.engine_formats.specs.declared.remark.Remark.TheVariants.{Message, Lint, DatabaseLint, LinkFault}
+use Rattle.file_catalogue.specs.Catalogue.{remark_of}
+use Rattle.file_catalogue.specs.declared.remark.Remark.{Remark}
+use Rattle.file_catalogue.specs.declared.remark.Remark.TheVariants.{Message, Lint, DatabaseLint, LinkFault}
 
 -- whether a remark is about what is found in a file, a message or a lint, and not about a comment
 abbrev pub is_found : Remark → Bool

@@ -9,9 +9,9 @@ use Rattle.rule_file_lints.specs.FileLints.{placed_lints}
 use Rattle.engine_ends.specs.declared.line.Line.{Line}
 use Rattle.engine_formats.specs.Diagnostics.{DiagnosticValue}
 use Rattle.engine_formats.specs.Placing.{line_numbered}
-use Rattle.engine_formats.specs.Remarks.{code_of}
-use Rattle.engine_formats.specs.declared.remark.Remark.{Remark}
-use Rattle.engine_formats.specs.declared.remark.Remark.TheVariants.{Message, Lint, DatabaseLint, LinkFault, IdleIgnore, UnknownCode}
+use Rattle.file_catalogue.specs.Catalogue.{code_of}
+use Rattle.file_catalogue.specs.declared.remark.Remark.{Remark}
+use Rattle.file_catalogue.specs.declared.remark.Remark.TheVariants.{Message, Lint, DatabaseLint, LinkFault, IdleIgnore, UnknownCode}
 use Rattle.engine_checks.specs.Codes.{is_found}
 use Rattle.engine_checks.specs.Files.{database_lint_diagnostic, file_text, findings_of, lint_diagnostic, rule_diagnostic}
 use Rattle.engine_checks.specs.Ignores.{Ignore}

@@ -11,7 +11,7 @@ use Rattle.engine_ends.specs.Delivery.{RunOutcome}
 use Rattle.engine_ends.specs.Kinds.{names_files_of}
 use Rattle.engine_ends.specs.declared.line.Line.{Line}
 use Rattle.engine_formats.specs.Diagnostics.{DiagnosticValue}
-use Rattle.engine_formats.specs.declared.remark.Remark.TheVariants as about
+use Rattle.file_catalogue.specs.declared.remark.Remark.TheVariants as about
 use Rattle.engine_checks.specs.Files.{asked_by, ignores_counted}
 use Rattle.engine_checks.specs.Outcomes.{checks_said}
 use Rattle.engine_checks.specs.Reported.{FileText, diagnostic_in, file_reported}

@@ -11,9 +11,9 @@ use Rattle.rule_pairs.specs.Accounts.{Accounts}
 use Rattle.rule_remarks.specs.ByLine.{by_line}
 use Rattle.engine_formats.specs.Diagnostics.{DiagnosticValue}
 use Rattle.engine_formats.specs.Placing.{line_numbered}
-use Rattle.engine_formats.specs.Remarks.{code_of}
-use Rattle.engine_formats.specs.declared.remark.Remark.{Remark}
-use Rattle.engine_formats.specs.declared.remark.Remark.TheVariants.{Message, Lint, DatabaseLint, IdleIgnore, UnknownCode}
+use Rattle.file_catalogue.specs.Catalogue.{code_of}
+use Rattle.file_catalogue.specs.declared.remark.Remark.{Remark}
+use Rattle.file_catalogue.specs.declared.remark.Remark.TheVariants.{Message, Lint, DatabaseLint, IdleIgnore, UnknownCode}
 use Rattle.engine_checks.specs.Codes.{is_code}
 use Rattle.engine_checks.specs.Ignores.{Ignore}
 use Rattle.engine_checks.specs.declared.ignores.Scope.{Scope}

@@ -6,9 +6,9 @@ use Rattle.text_bytes.specs.Lines.{numbered_lines}
 use Rattle.text_bytes.specs.Text.{Text}
 use Rattle.text_tables.specs.Texts.{is_among, same_text}
 use Rattle.engine_formats.specs.Diagnostics.{DiagnosticValue}
-use Rattle.engine_formats.specs.Remarks.{code_of}
-use Rattle.engine_formats.specs.declared.remark.Remark.{Remark}
-use Rattle.engine_formats.specs.declared.remark.Remark.TheVariants.{IdleIgnore, UnknownCode}
+use Rattle.file_catalogue.specs.Catalogue.{code_of}
+use Rattle.file_catalogue.specs.declared.remark.Remark.{Remark}
+use Rattle.file_catalogue.specs.declared.remark.Remark.TheVariants.{IdleIgnore, UnknownCode}
 use Rattle.text_bytes.specs.declared.source_file.SourceFile.{SourceFile}
 use Rattle.hwdb_core.specs.Sources.{messages_of}
 use Rattle.rule_remarks.specs.Findings.{findings_as}

@@ -2,7 +2,7 @@
 ghost use Rattle.std.specs.Prelude.{◌≡◌};
 ghost use Rattle.engine_checks.specs.Codes.{is_code, is_found};
 
-use engine_formats::{Remark, remark_of};
+use file_catalogue::{Remark, remark_of};
 
 /// Whether a text is the code of something that can be found in a file; case counts, and the codes of remarks on
 /// comments are not among them.

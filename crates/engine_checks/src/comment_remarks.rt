@@ -7,7 +7,8 @@ ghost use Rattle.engine_checks.specs.Reported.{comment_diagnostic};
 use crate::file_text::FileText;
 use crate::ignores::Ignore;
 use crate::met::Met;
-use engine_formats::{Diagnostic, Remark};
+use engine_formats::Diagnostic;
+use file_catalogue::Remark;
 use std::alloc::{AllocError, Global};
 use text_bytes::Bytes;
 

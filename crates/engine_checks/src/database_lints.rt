@@ -6,7 +6,8 @@ ghost use Rattle.engine_checks.specs.Files.{database_lint_diagnostic, database_l
 use crate::asked::has_comments;
 use crate::file_text::FileText;
 use crate::reported::Asked;
-use engine_formats::{Diagnostic, Remark};
+use engine_formats::Diagnostic;
+use file_catalogue::Remark;
 use hwdb_lints::{PlacedLint, database_lints};
 use std::alloc::{AllocError, Global};
 use text_bytes::SourceFile;

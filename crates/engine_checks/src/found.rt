@@ -4,7 +4,8 @@ ghost use Rattle.engine_formats.specs.Diagnostics.{shown};
 ghost use Rattle.engine_checks.specs.Files.{database_diagnostic, rule_diagnostic};
 
 use crate::file_text::FileText;
-use engine_formats::{Diagnostic, Remark, placed_message};
+use engine_formats::{Diagnostic, placed_message};
+use file_catalogue::Remark;
 use file_messages::{Message, MessageKind};
 use rule_places::PlacedFinding;
 use std::alloc::{AllocError, Global};

@@ -12,7 +12,8 @@ use crate::codes::is_code;
 use crate::ignores::{Ignore, Scope};
 use crate::line_codes::LineCodes;
 use crate::silenced::{add_text, is_file, next_line};
-use engine_formats::{Diagnostic, Remark};
+use engine_formats::Diagnostic;
+use file_catalogue::Remark;
 use std::alloc::{AllocError, Global};
 use text_tables::Texts;
 

@@ -10,7 +10,7 @@ ghost use Rattle.engine_checks.specs.Told.{messages_said, names_told, next_above
 
 use crate::reported::{Asked, is_asked};
 use engine_ends::{push_place, push_word};
-use engine_formats::Remark;
+use file_catalogue::Remark;
 use file_messages::MessageKind;
 use rule_core::{Draft, JoinedLines, LandedLines, LandedReading, Spot, line_findings, note_lines};
 use rule_file_lints::{FileNames, RulesAbove, lints_of_line};
@@ -271,7 +271,7 @@ pub(crate) fn tell(
 {
     if is_asked(asked, remark) {
         push_place(alloc, text, name, number)?;
-        text.extend_from_slice(remark.heading())?;
+        remark.push_heading(text)?;
         push_word(alloc, text, word_of(word))?;
         text.push(b'\n')?;
     }

@@ -16,7 +16,8 @@ use Rattle.eval_effects.specs.Named.{rule_place}
 use Rattle.eval_effects.specs.Since.{Since, no_since, since_after}
 use Rattle.eval_courses.specs.Courses.{course}
 use Rattle.engine_ends.specs.Places.{place_of, word_part}
-use Rattle.engine_reports.specs.Messages.{heading_of}
+use Rattle.file_catalogue.specs.Catalogue.{remark_heading}
+use Rattle.file_catalogue.specs.declared.remark.Remark.TheVariants as about
 use Rattle.engine_courses.specs.Asked.{is_asked, unread}
 
 -- a line of `--why`: `why FILE:LINE: TEXT`
@@ -25,7 +26,7 @@ why_line file line text = codes "why " ++ place_of file line ++ text ++ newline 
 
 -- what is reported for a line of rules that was not read, by the message on it
 unfoldable pub unread_text : Message → Text
-unread_text message = codes "not read: " ++ heading_of message.kind ++ word_part message.word
+unread_text message = codes "not read: " ++ remark_heading (about.Message message.kind) ++ word_part message.word
 
 -- the lines on messages whose lines were not read
 abbrev pub unread_lines : List Message → Text

@@ -3,8 +3,8 @@ ghost use Rattle.std.specs.Prelude.{◌≡◌, ◌++◌, Some, IfOk, OnOk, optio
 ghost use Rattle.engine_courses.specs.WhyLines.{passed_texts, rule_lines, unread_text, why_line};
 
 use engine_ends::{push_place, push_word};
-use engine_reports::heading;
 use eval_effects::push_rule;
+use file_catalogue::Remark;
 use file_messages::Message;
 use rule_types::Rule;
 use std::alloc::{AllocError, Global};
@@ -34,7 +34,7 @@ fn unread_text(alloc: Global, message: &Message) -> Result<Vec<u8>, AllocError>
     ensures { IfOk result (λ text. text.items ≡ unread_text message.now) }
 {
     let mut text = Vec::from_slice(alloc, b"not read: ")?;
-    text.extend_from_slice(heading(message.kind))?;
+    Remark::Message(message.kind).push_heading(&mut text)?;
     push_word(alloc, &mut text, message.word.as_slice())?;
     Ok(text)
 }

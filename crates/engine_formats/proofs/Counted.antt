@@ -7,7 +7,7 @@ use Rattle.text_bytes.specs.Lines.{lines}
 use Rattle.text_bytes.specs.Names.{carriage_return, colon, comma, newline, question_mark, space, tab}
 use Rattle.text_bytes.specs.Texts.{begins_with}
 use Rattle.engine_ends.specs.Places.{place_of, word_part}
-use Rattle.engine_formats.specs.Advice.{advice_of}
+use Rattle.file_catalogue.specs.Catalogue.{advice_of}
 use Rattle.engine_formats.specs.Diagnostics.{DiagnosticValue}
 use Rattle.engine_formats.specs.Github.{github_line, github_place, github_property, github_text}
 use Rattle.engine_formats.specs.Hints.{advice_by, advice_for, advice_on_comma, advice_with, byte_order_mark, is_at_end, no_break_space}
@@ -17,16 +17,16 @@ use Rattle.engine_formats.specs.Lines.{code_part, gcc_line, plain_line, spot_of}
 use Rattle.engine_formats.specs.Masked.{masked}
 use Rattle.engine_formats.specs.Paints.{paint_of, paint_start, paint_stop}
 use Rattle.engine_formats.specs.Readers.{HasPlace, ends_line, ends_property}
-use Rattle.engine_formats.specs.Remarks.{code_of, remark_heading, severity_of, severity_word, text_of}
+use Rattle.file_catalogue.specs.Catalogue.{code_of, remark_heading, severity_of, severity_word, text_of}
 use Rattle.engine_formats.specs.declared.paint.Paint.{Paint}
 use Rattle.engine_formats.specs.declared.paint.Paint.TheVariants.{Unpainted, Red, Yellow}
-use Rattle.engine_formats.specs.declared.remark.Remark.{Remark}
-use Rattle.engine_formats.specs.declared.remark.Remark.TheVariants as about
+use Rattle.file_catalogue.specs.declared.remark.Remark.{Remark}
+use Rattle.file_catalogue.specs.declared.remark.Remark.TheVariants as about
 use Rattle.file_messages.specs.declared.message.MessageKind.TheVariants.{BadSyntax, CommaExpected, UnknownKey, PropertyWithoutMatch, MatchWithoutProperty, UnindentedLine, NoEquals, EmptyKey, PatternNotSupported, OperatorNotAllowed, WrongAttribute, BadValue, BadSubstitution, NoLaterLabel, GivenTwice, LineTooLong, BadPrefix, SetNotSupported, OpenAtEnd, ReservedProperty, NameWithoutEffect, UnknownBuiltin, MatchesExclude, SaidTwice, RuleWithoutEffect, ResultBeforeProgram, EmptyValue, BadAttributeSubstitution, AttributeElsewhere, OldSubsystemName, AssignExpected, UnknownAccount, FileAbandoned, BlankExpected, ReadAsAssign, LabelUnused, LeadingComma, BlankBeforeComma}
-use Rattle.engine_formats.specs.declared.remark.Severity.{Severity}
-use Rattle.engine_formats.specs.declared.remark.Severity.TheVariants.{Error, Warning}
+use Rattle.file_catalogue.specs.declared.remark.Severity.{Severity}
+use Rattle.file_catalogue.specs.declared.remark.Severity.TheVariants.{Error, Warning}
 use Rattle.engine_formats.proofs.Commands.{property_ends_none, text_ends_no_line}
-use Rattle.engine_formats.proofs.Headings.{advice_lacks, code_lacks, heading_lacks, text_lacks}
+use Rattle.file_catalogue.proofs.Telling.{advice_lacks, code_lacks, heading_lacks, text_lacks}
 use Rattle.engine_formats.proofs.MeantNames.{meant_lacks}
 use Rattle.engine_formats.proofs.OneLine.{Lacks, decimal_lacks, first_line_is, lacks-append, or_parts}
 

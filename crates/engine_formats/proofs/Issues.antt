@@ -9,7 +9,7 @@ use Rattle.text_json.specs.Values.{array_of, items_of}
 use Rattle.engine_formats.specs.Json.{gitlab_issue}
 use Rattle.engine_formats.specs.Sarif.{result_object, rule_object}
 use Rattle.engine_formats.specs.Tokens.{issue_tokens, result_tokens, rule_tokens}
-use Rattle.engine_formats.specs.declared.remark.Remark.{Remark}
+use Rattle.file_catalogue.specs.declared.remark.Remark.{Remark}
 
 items_listed : {A : Type 0} (f : A → Json) (tokens : A → List Token) → ((x : A) → tokens x ≡ json_tokens (f x)) → (xs : List A)
     → flat_map tokens xs ++ token.end_array ∷ [] ≡ items_tokens (items_of (map f xs))

@@ -1,8 +1,5 @@
 mod OneLine
 mod Commands
-mod DatabaseHeadings
-mod LinkHeadings
-mod Headings
 mod Issues
 mod SameLines
 mod Read
@@ -17,5 +14,3 @@ mod Windows
 mod Carets
 mod NearestNames
 mod MeantNames
-mod Classes
-mod Unknown

@@ -19,7 +19,7 @@ use Rattle.text_json.specs.Values.{array_of, items_of}
 use Rattle.engine_formats.specs.Readers.{HasPlace, github_read, message_read}
 use Rattle.engine_formats.specs.Sarif.{character_column, is_brace, log_object, message_byte, message_text, region_object, result_object, rule_object, driver_object, run_object, sarif_log, tool_object}
 use Rattle.engine_formats.specs.Uris.{is_kept, uri_byte, uri_path}
-use Rattle.engine_formats.specs.declared.remark.Remark.{Remark}
+use Rattle.file_catalogue.specs.declared.remark.Remark.{Remark}
 use Rattle.engine_formats.proofs.Commands.{plain}
 use Rattle.engine_formats.proofs.OneLine.{AreClean, Lacks, clean-append, first_line_is, lacks-append, print_lacks}
 use Rattle.engine_formats.proofs.Read.{AllPlaced, number_clean, placed_after}

@@ -14,8 +14,8 @@ use Rattle.file_messages.specs.declared.message.MessageKind.TheVariants.{RuleWit
 use Rattle.file_messages.specs.declared.message.MessageKind.TheVariants.{AttributeElsewhere, OldSubsystemName, AssignExpected, UnknownAccount, FileAbandoned}
 use Rattle.file_messages.specs.declared.message.MessageKind.TheVariants.{BlankExpected, ReadAsAssign, LabelUnused, LeadingComma, BlankBeforeComma}
 use Rattle.engine_formats.specs.Meant.{meant_as, name_in, names_for}
-use Rattle.engine_formats.specs.declared.remark.Remark.{Remark}
-use Rattle.engine_formats.specs.declared.remark.Remark.TheVariants as about
+use Rattle.file_catalogue.specs.declared.remark.Remark.{Remark}
+use Rattle.file_catalogue.specs.declared.remark.Remark.TheVariants as about
 use Rattle.engine_formats.proofs.NearestNames.{nearest_one}
 use Rattle.engine_formats.proofs.OneLine.{Lacks, or_parts}
 

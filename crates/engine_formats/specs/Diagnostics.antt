@@ -2,7 +2,7 @@
 use Rattle.std.specs.Prelude.{ℕ}
 use Rattle.text_bytes.specs.Text.{Text}
 use Rattle.engine_formats.specs.declared.diagnostic.Diagnostic.{Diagnostic}
-use Rattle.engine_formats.specs.declared.remark.Remark.{Remark}
+use Rattle.file_catalogue.specs.declared.remark.Remark.{Remark}
 
 -- what is said about a place in a file
 pub record DiagnosticValue : Type 0 where

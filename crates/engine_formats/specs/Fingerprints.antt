@@ -5,7 +5,7 @@ use Rattle.text_bytes.specs.Names.{colon}
 use Rattle.text_bytes.specs.Text.{Text}
 use Rattle.text_tables.specs.Texts.{same_text}
 use Rattle.engine_formats.specs.Diagnostics.{DiagnosticValue, shown}
-use Rattle.engine_formats.specs.Remarks.{code_of}
+use Rattle.file_catalogue.specs.Catalogue.{code_of}
 use Rattle.engine_formats.specs.declared.fingerprints.Fingerprinted.{Fingerprinted}
 
 -- at most how many bytes a line has that a fingerprint has whole

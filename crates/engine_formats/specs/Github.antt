@@ -5,7 +5,7 @@ use Rattle.text_bytes.specs.Escapes.{is_control}
 use Rattle.text_bytes.specs.Names.{carriage_return, colon, comma, newline, percent}
 use Rattle.engine_ends.specs.Places.{word_part}
 use Rattle.engine_formats.specs.Diagnostics.{DiagnosticValue}
-use Rattle.engine_formats.specs.Remarks.{code_of, severity_of, severity_word, text_of}
+use Rattle.file_catalogue.specs.Catalogue.{code_of, severity_of, severity_word, text_of}
 use Rattle.engine_formats.specs.Uris.{percent_byte}
 
 -- a byte of what a command says: `%` and the two ends of a line by `%` and two hexadecimal digits, all others as they are

@@ -6,11 +6,11 @@ use Rattle.text_bytes.specs.Names.{carriage_return}
 use Rattle.text_bytes.specs.Texts.{begins_with}
 use Rattle.file_messages.specs.declared.message.MessageKind.{MessageKind}
 use Rattle.file_messages.specs.declared.message.MessageKind.TheVariants.{BadSyntax, CommaExpected}
-use Rattle.engine_formats.specs.Advice.{advice_of}
+use Rattle.file_catalogue.specs.Catalogue.{advice_of}
 use Rattle.engine_formats.specs.Diagnostics.{DiagnosticValue}
 use Rattle.engine_formats.specs.Meant.{meant_as}
-use Rattle.engine_formats.specs.declared.remark.Remark.{Remark}
-use Rattle.engine_formats.specs.declared.remark.Remark.TheVariants.{Message}
+use Rattle.file_catalogue.specs.declared.remark.Remark.{Remark}
+use Rattle.file_catalogue.specs.declared.remark.Remark.TheVariants.{Message}
 
 -- U+FEFF and U+00A0 in UTF-8
 abbrev pub byte_order_mark : Text

@@ -9,7 +9,7 @@ use Rattle.engine_formats.specs.Hints.{advice_for}
 use Rattle.engine_formats.specs.Lines.{code_part, spot_of}
 use Rattle.engine_formats.specs.Masked.{masked}
 use Rattle.engine_formats.specs.Paints.{paint_of, paint_start, paint_stop}
-use Rattle.engine_formats.specs.Remarks.{text_of}
+use Rattle.file_catalogue.specs.Catalogue.{text_of}
 use Rattle.engine_formats.specs.declared.paint.Paint.{Paint}
 
 -- the place of a diagnostic and what it says, `PATH:LINE:COLUMN: error: bad substitution [V6]`; in a color up to what

@@ -10,9 +10,9 @@ use Rattle.json.specs.Print.{print}
 use Rattle.json.specs.Tree.{json_tokens}
 use Rattle.engine_formats.specs.Diagnostics.{DiagnosticValue}
 use Rattle.engine_formats.specs.Fingerprints.{FingerprintedValue, fingerprinted}
-use Rattle.engine_formats.specs.Remarks.{code_of, remark_heading, severity_of, severity_word, text_of}
-use Rattle.engine_formats.specs.declared.remark.Severity.{Severity}
-use Rattle.engine_formats.specs.declared.remark.Severity.TheVariants.{Error, Warning}
+use Rattle.file_catalogue.specs.Catalogue.{code_of, remark_heading, severity_of, severity_word, text_of}
+use Rattle.file_catalogue.specs.declared.remark.Severity.{Severity}
+use Rattle.file_catalogue.specs.declared.remark.Severity.TheVariants.{Error, Warning}
 
 -- a text of a file, in which what is not UTF-8 becomes U+FFFD
 abbrev pub text_value : Text → Json

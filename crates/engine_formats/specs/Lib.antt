@@ -1,13 +1,8 @@
-pub mod Remarks
-pub mod Codes
-pub mod DatabaseLints
-pub mod LinkFaults
 pub mod Diagnostics
 pub mod Lines
 pub mod Github
 pub mod Fingerprints
 pub mod Json
-pub mod Advice
 pub mod Paints
 pub mod Masked
 pub mod Near
@@ -23,4 +18,3 @@ pub mod Readers
 pub mod Made
 pub mod Paths
 pub mod Placing
-pub mod Ignored

@@ -6,8 +6,8 @@ use Rattle.text_bytes.specs.Texts.{word_of}
 use Rattle.text_bytes.specs.Names.{colon, newline}
 use Rattle.engine_ends.specs.Places.{place_of, word_part}
 use Rattle.engine_formats.specs.Diagnostics.{DiagnosticValue}
-use Rattle.engine_formats.specs.Remarks.{code_of, remark_heading, severity_of, severity_word, text_of}
-use Rattle.engine_formats.specs.declared.remark.Remark.{Remark}
+use Rattle.file_catalogue.specs.Catalogue.{code_of, remark_heading, severity_of, severity_word, text_of}
+use Rattle.file_catalogue.specs.declared.remark.Remark.{Remark}
 
 -- the line of a diagnostic as messages are written: `NAME:LINE: V6 bad substitution: WORD`, with the first line of the rule and the
 -- first 32 bytes of the word

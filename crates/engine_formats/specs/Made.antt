@@ -6,7 +6,7 @@ use Rattle.text_bytes.specs.Texts.{word_of}
 use Rattle.file_messages.specs.declared.message.Message.{Message}
 use Rattle.engine_formats.specs.Diagnostics.{DiagnosticValue}
 use Rattle.engine_formats.specs.Placing.{Place}
-use Rattle.engine_formats.specs.declared.remark.Remark.TheVariants as about
+use Rattle.file_catalogue.specs.declared.remark.Remark.TheVariants as about
 
 -- A diagnostic is made from a message: it has its file, its line and its kind, and a word whose first bytes the
 -- message keeps.

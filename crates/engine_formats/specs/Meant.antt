@@ -12,8 +12,8 @@ use Rattle.rule_templates.specs.Names.{long_names}
 use Rattle.rule_types.specs.Builtins.{builtin_name, builtins, first_word}
 use Rattle.rule_types.specs.Names.{key_name, keys}
 use Rattle.engine_formats.specs.Near.{nearest}
-use Rattle.engine_formats.specs.declared.remark.Remark.{Remark}
-use Rattle.engine_formats.specs.declared.remark.Remark.TheVariants.{Message}
+use Rattle.file_catalogue.specs.declared.remark.Remark.{Remark}
+use Rattle.file_catalogue.specs.declared.remark.Remark.TheVariants.{Message}
 
 -- the names of options of OPTIONS, each without its value
 abbrev pub option_names : List Text

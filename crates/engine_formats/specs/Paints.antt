@@ -1,12 +1,12 @@
 -- The colors of diagnostics on a terminal.
 use Rattle.std.specs.Prelude.{ℕ, Bool, true, false, [], ◌∷◌, codes}
 use Rattle.text_bytes.specs.Text.{Text}
-use Rattle.engine_formats.specs.Remarks.{severity_of}
+use Rattle.file_catalogue.specs.Catalogue.{severity_of}
 use Rattle.engine_formats.specs.declared.paint.Paint.{Paint}
 use Rattle.engine_formats.specs.declared.paint.Paint.TheVariants.{Unpainted, Red, Yellow}
-use Rattle.engine_formats.specs.declared.remark.Remark.{Remark}
-use Rattle.engine_formats.specs.declared.remark.Severity.{Severity}
-use Rattle.engine_formats.specs.declared.remark.Severity.TheVariants.{Error, Warning}
+use Rattle.file_catalogue.specs.declared.remark.Remark.{Remark}
+use Rattle.file_catalogue.specs.declared.remark.Severity.{Severity}
+use Rattle.file_catalogue.specs.declared.remark.Severity.TheVariants.{Error, Warning}
 
 -- an error is red, a warning yellow
 abbrev pub color_of : Severity → Paint

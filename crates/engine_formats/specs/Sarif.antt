@@ -7,15 +7,15 @@ use Rattle.engine_ends.specs.Places.{word_part}
 use Rattle.json.specs.Json.{Json, string}
 use Rattle.json.specs.Print.{print}
 use Rattle.json.specs.Tree.{json_tokens}
-use Rattle.engine_formats.specs.Advice.{advice_of}
+use Rattle.file_catalogue.specs.Catalogue.{advice_of}
 use Rattle.engine_formats.specs.Diagnostics.{DiagnosticValue}
 use Rattle.engine_formats.specs.Fingerprints.{FingerprintedValue, fingerprinted}
 use Rattle.engine_formats.specs.Human.{continues}
 use Rattle.text_json.specs.Values.{array_of, number_value, object_of}
 use Rattle.engine_formats.specs.Json.{text_value}
-use Rattle.engine_formats.specs.Remarks.{code_of, severity_of, severity_word, text_of}
+use Rattle.file_catalogue.specs.Catalogue.{code_of, severity_of, severity_word, text_of}
 use Rattle.engine_formats.specs.Uris.{uri_of}
-use Rattle.engine_formats.specs.declared.remark.Remark.{Remark}
+use Rattle.file_catalogue.specs.declared.remark.Remark.{Remark}
 
 -- whether a byte is a brace, between which a message could have a place for an argument
 abbrev pub is_brace : ℕ → Bool

@@ -5,7 +5,7 @@ use Rattle.json.specs.Tree.{json_tokens}
 use Rattle.engine_formats.specs.Fingerprints.{FingerprintedValue}
 use Rattle.engine_formats.specs.Json.{gitlab_issue}
 use Rattle.engine_formats.specs.Sarif.{result_object, rule_object}
-use Rattle.engine_formats.specs.declared.remark.Remark.{Remark}
+use Rattle.file_catalogue.specs.declared.remark.Remark.{Remark}
 
 unfoldable pub issue_tokens : FingerprintedValue → List Token
 issue_tokens f = json_tokens (gitlab_issue f)

@@ -1,7 +1,7 @@
 //! A diagnostic: what is said about a place in a file.
 
-use crate::remark::Remark;
 use engine_reports::Named;
+use file_catalogue::Remark;
 use text_bytes::Bytes;
 
 /// What is said about a place in a file.

@@ -3,7 +3,6 @@ ghost use Rattle.std.specs.Prelude.{◌≡◌, map, IfOk};
 ghost use Rattle.engine_formats.specs.Diagnostics.{shown};
 ghost use Rattle.engine_formats.specs.Formats.{formatted, is_report};
 
-use crate::codes::remarks;
 use crate::diagnostic::Diagnostic;
 use crate::gcc::gcc_lines;
 use crate::github::github_lines;
@@ -13,6 +12,7 @@ use crate::objects::json_lines;
 use crate::plain::plain_lines;
 use crate::sarif::sarif_log;
 use engine_ends::Format;
+use file_catalogue::remarks;
 use std::alloc::{AllocError, Global};
 
 /// Diagnostics in a format, in the order given.
@@ -29,7 +29,7 @@ pub fn formatted(
         Format::Github => github_lines(alloc, diagnostics),
         Format::Gitlab => gitlab_report(alloc, diagnostics),
         Format::Json => json_lines(alloc, diagnostics),
-        Format::Sarif => sarif_log(alloc, remarks(), diagnostics),
+        Format::Sarif => sarif_log(alloc, &remarks(alloc)?, diagnostics),
         Format::Human => human_lines(alloc, false, diagnostics),
         Format::HumanInColor => human_lines(alloc, true, diagnostics),
     }

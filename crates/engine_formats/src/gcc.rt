@@ -5,8 +5,8 @@ ghost use Rattle.engine_formats.specs.Lines.{code_part, gcc_line, spot_of};
 
 use crate::diagnostic::Diagnostic;
 use crate::parts::push_number;
-use crate::remark::Remark;
 use engine_ends::push_word;
+use file_catalogue::Remark;
 use std::alloc::{AllocError, Global};
 use text_bytes::escape;
 

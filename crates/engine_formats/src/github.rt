@@ -4,12 +4,12 @@ ghost use Rattle.text_bytes.specs.Names.{newline};
 ghost use Rattle.engine_ends.specs.Places.{word_part};
 ghost use Rattle.engine_formats.specs.Diagnostics.{shown};
 ghost use Rattle.engine_formats.specs.Github.{github_line, github_place, github_text};
-ghost use Rattle.engine_formats.specs.Remarks.{text_of};
+ghost use Rattle.file_catalogue.specs.Catalogue.{text_of};
 
 use crate::diagnostic::Diagnostic;
 use crate::github_escapes::{push_github_property, push_github_text};
-use crate::remark::Remark;
 use engine_ends::push_word;
+use file_catalogue::Remark;
 use itoa::Buffer;
 use std::alloc::{AllocError, Global};
 

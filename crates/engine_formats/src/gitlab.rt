@@ -6,13 +6,13 @@ ghost use Rattle.engine_formats.specs.Diagnostics.{shown};
 ghost use Rattle.engine_formats.specs.Fingerprints.{shown_given};
 ghost use Rattle.engine_formats.specs.Json.{gitlab_location, gitlab_report, gitlab_severity};
 ghost use Rattle.engine_formats.specs.Tokens.{issue_tokens};
-ghost use Rattle.engine_formats.specs.Remarks.{remark_heading};
+ghost use Rattle.file_catalogue.specs.Catalogue.{remark_heading};
 
 use crate::diagnostic::Diagnostic;
 use crate::fingerprints::{Fingerprinted, with_fingerprints};
 use crate::json_members::write_text;
-use crate::remark::{Remark, Severity};
 use engine_ends::push_word;
+use file_catalogue::{Remark, Severity};
 use json::Writer;
 use std::alloc::{AllocError, Global};
 use text_json::{write_number, write_word};
@@ -97,7 +97,8 @@ fn write_location(
 fn description(alloc: Global, remark: Remark, word: &[u8]) -> Result<Vec<u8>, AllocError>
     ensures { IfOk result (λ text. text.items ≡ remark_heading remark ++ word_part word.now) }
 {
-    let mut text = Vec::from_slice(alloc, remark.heading())?;
+    let mut text = Vec::new(alloc);
+    remark.push_heading(&mut text)?;
     push_word(alloc, &mut text, word)?;
     Ok(text)
 }

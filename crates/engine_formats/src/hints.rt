@@ -8,7 +8,7 @@ ghost use Rattle.engine_formats.specs.Hints.{advice_by, advice_for, advice_on_co
 
 use crate::diagnostic::Diagnostic;
 use crate::meant::meant_as;
-use crate::remark::Remark;
+use file_catalogue::Remark;
 use file_messages::MessageKind;
 use std::alloc::{AllocError, Global};
 use text_bytes::begins_with;

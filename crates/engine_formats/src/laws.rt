@@ -7,15 +7,9 @@ ghost use Rattle.std.specs.List.{filter, list_any, range_with_len};
 ghost use Rattle.text_bytes.specs.Text.{Text};
 ghost use Rattle.text_bytes.specs.Lines.{lines, numbered_lines};
 ghost use Rattle.text_bytes.specs.Texts.{word_of};
-ghost use Rattle.text_bytes.specs.Names.{space};
 ghost use Rattle.file_messages.specs.declared.message.Message.{Message};
-ghost use Rattle.file_messages.specs.declared.message.MessageKind.{MessageKind};
 ghost use Rattle.text_bytes.specs.declared.source_file.SourceFile.{SourceFile};
-ghost use Rattle.file_messages.specs.Messages.{is_style};
 ghost use Rattle.hwdb_core.specs.Sources.{messages_of};
-ghost use Rattle.hwdb_lints.specs.declared.lint.DatabaseLint.{DatabaseLint};
-ghost use Rattle.link_lints.specs.declared.fault.LinkFault.{LinkFault};
-ghost use Rattle.rule_lints.specs.declared.lint.Lint.{Lint};
 ghost use Rattle.engine_ends.specs.declared.line.Format.{Format};
 ghost use Rattle.engine_reports.specs.Messages.{message_lines};
 ghost use Rattle.engine_formats.specs.Diagnostics.{DiagnosticValue};
@@ -27,27 +21,6 @@ ghost use Rattle.engine_formats.specs.Marks.{PointsAt, line_after};
 ghost use Rattle.engine_formats.specs.Masked.{masked};
 ghost use Rattle.engine_formats.specs.Placing.{placed};
 ghost use Rattle.engine_formats.specs.Readers.{HasPlace, ends_line, ends_property, github_read, property_at};
-ghost use Rattle.engine_formats.specs.Remarks.{code_of, remark_heading, severity_of, text_of};
-ghost use Rattle.engine_formats.specs.declared.remark.Remark.{Remark};
-ghost use Rattle.engine_formats.specs.declared.remark.Remark.TheVariants as about;
-ghost use Rattle.engine_formats.specs.declared.remark.Severity.TheVariants.{Error, Warning};
-
-/// The heading of a remark is its code, a space and its text; the code has no space.
-pub fn a_heading_is_its_code_and_text()
-    ensures whole { (remark : Remark) → remark_heading remark ≡ code_of remark ++ space ∷ text_of remark }
-    ensures code { (remark : Remark) → list_any (λ b. b == space) (code_of remark) ≡ false }
-{}
-
-/// Messages about style are warnings, and all other messages are errors. Lints and remarks on comments
-/// are warnings.
-pub fn style_is_a_warning()
-    ensures message { (kind : MessageKind) → severity_of (about.Message kind) ≡ (if is_style kind then Warning else Error) }
-    ensures lint { (lint : Lint) → severity_of (about.Lint lint) ≡ Warning }
-    ensures database { (lint : DatabaseLint) → severity_of (about.DatabaseLint lint) ≡ Warning }
-    ensures links { (fault : LinkFault) → severity_of (about.LinkFault fault) ≡ Error }
-    ensures idle { severity_of about.IdleIgnore ≡ Warning }
-    ensures unknown { severity_of about.UnknownCode ≡ Warning }
-{}
 
 /// Diagnostics that are made from messages are by default written as these messages are.
 pub fn messages_are_plain_diagnostics()

@@ -4,10 +4,7 @@
 //! as one text before any of it is written.
 #![tactic(auto)]
 
-mod advice;
-mod codes;
 mod columns;
-mod database_lints;
 mod diagnostic;
 mod fingerprints;
 mod formats;
@@ -17,10 +14,8 @@ mod github_escapes;
 mod gitlab;
 mod hints;
 mod human;
-mod ignored;
 mod json_members;
 mod laws;
-mod link_faults;
 mod marks;
 mod meant;
 mod near;
@@ -32,20 +27,17 @@ mod paths;
 mod placing;
 mod plain;
 mod reader_laws;
-mod remark;
 mod sarif;
 mod signs;
 mod uris;
 
-pub use codes::{each_remark_is_found, remark_of, remarks};
 pub use diagnostic::Diagnostic;
 pub use formats::{formatted, is_report};
 pub use hints::push_advice_for;
-pub use ignored::{ignored_codes, unknown_ignored};
 pub use laws::{
-    a_heading_is_its_code_and_text, commands_are_read_back, commands_end_nowhere_within,
-    diagnostics_have_their_lines, marks_are_below_their_places, messages_are_at_their_words,
-    messages_are_plain_diagnostics, style_is_a_warning, terminals_are_not_obeyed,
+    commands_are_read_back, commands_end_nowhere_within, diagnostics_have_their_lines,
+    marks_are_below_their_places, messages_are_at_their_words, messages_are_plain_diagnostics,
+    terminals_are_not_obeyed,
 };
 pub use marks::shown_byte;
 pub use meant::meant_as;
@@ -59,5 +51,4 @@ pub use reader_laws::{
     a_gitlab_report_is_an_array, a_sarif_log_is_an_object, each_json_line_is_an_object,
     fingerprints_differ, fingerprints_stay, fingerprints_tell_lines_apart, logs_are_read_back,
 };
-pub use remark::{Remark, Severity};
 pub use signs::{masked, shown_in};

@@ -7,10 +7,10 @@ ghost use Rattle.text_bytes.specs.Texts.{split_once};
 ghost use Rattle.rule_types.specs.Builtins.{builtin_name, first_word};
 ghost use Rattle.rule_types.specs.Names.{key_name};
 ghost use Rattle.engine_formats.specs.Meant.{has_name, letters, meant_as, name_in, names_for, option_in, unknown_after};
-ghost use Rattle.engine_formats.specs.declared.remark.Remark.TheVariants as about;
+ghost use Rattle.file_catalogue.specs.declared.remark.Remark.TheVariants as about;
 
 use crate::near::nearest;
-use crate::remark::Remark;
+use file_catalogue::Remark;
 use file_messages::MessageKind;
 use rule_types::{BUILTINS, Builtin, Key, first_word};
 use std::alloc::{AllocError, Global};

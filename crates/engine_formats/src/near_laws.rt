@@ -9,7 +9,7 @@ ghost use Rattle.file_messages.specs.declared.message.MessageKind.TheVariants.{B
 ghost use Rattle.rule_parts.specs.Options.{is_known_option};
 ghost use Rattle.engine_formats.specs.Meant.{meant_as, option_names};
 ghost use Rattle.engine_formats.specs.Near.{distance, farthest, nearest};
-ghost use Rattle.engine_formats.specs.declared.remark.Remark.TheVariants as about;
+ghost use Rattle.file_catalogue.specs.declared.remark.Remark.TheVariants as about;
 
 /// The name that is found is one of the names, so that what holds of all of them holds of it; it is near the word, and
 /// none of them is nearer. None is found for a word that is one of them; for any other word none is found only if all

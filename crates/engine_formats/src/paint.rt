@@ -2,7 +2,7 @@
 ghost use Rattle.std.specs.Prelude.{◌≡◌};
 ghost use Rattle.engine_formats.specs.Paints.{paint_of, paint_start, paint_stop};
 
-use crate::remark::{Remark, Severity};
+use file_catalogue::{Remark, Severity};
 
 /// The color that a part of a text is shown in.
 #[derive(Clone, Copy, PartialEq, Eq)]

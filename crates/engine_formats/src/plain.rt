@@ -33,7 +33,7 @@ fn push_plain_line(
     ensures { OnOk result (text.new.items ≡ text.old.items ++ plain_line (shown diagnostic.now)) }
 {
     push_place(alloc, text, diagnostic.name, diagnostic.begins)?;
-    text.extend_from_slice(diagnostic.remark.heading())?;
+    diagnostic.remark.push_heading(text)?;
     push_word(alloc, text, word_of(diagnostic.word.as_slice()))?;
     text.push(b'\n')?;
     Ok(())

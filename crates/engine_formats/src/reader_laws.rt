@@ -10,7 +10,7 @@ ghost use Rattle.text_bytes.specs.Texts.{begins_with};
 ghost use Rattle.text_tables.specs.Texts.{AreOnce, is_among};
 ghost use Rattle.json.specs.Json.{document};
 ghost use Rattle.engine_ends.specs.declared.line.Format.{Format};
-ghost use Rattle.engine_formats.specs.Codes.{remarks};
+ghost use Rattle.file_catalogue.specs.Catalogue.{remarks};
 ghost use Rattle.engine_formats.specs.Diagnostics.{DiagnosticValue};
 ghost use Rattle.engine_formats.specs.Formats.{formatted};
 ghost use Rattle.engine_formats.specs.Fingerprints.{fingerprinted, fingerprints, line_part, mark_of};

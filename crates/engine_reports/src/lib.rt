@@ -25,7 +25,6 @@ pub use delivery::{deliver_refusal, deliver_report, deliver_usage_error};
 pub use file_choice::files_read;
 pub use indexes::open_index;
 pub use law::an_index_opens_to_one_thing;
-pub use messages::heading;
 pub use opening::{RulesRead, open_rules, open_with_database};
 pub use refusal::Refusal;
 pub use report::Report;

@@ -130,11 +130,11 @@ use Rattle.rule_remarks.specs.Remarks.{rule_remarks, token_remarks}
 use Rattle.rule_remarks.specs.Rules.{file_remarks}
 use Rattle.rule_remarks.specs.Values.{value_fault}
 use Rattle.engine_reports.specs.Checks as engine_reports_checks
-use Rattle.engine_formats.specs.Codes.{remark_of}
+use Rattle.file_catalogue.specs.Catalogue.{remark_of, row_on}
 use Rattle.strsim.specs.Edits.{cost_at, next_row, rows}
 use Rattle.engine_formats.specs.Lines.{gcc_line, plain_line, spot_of}
 use Rattle.engine_formats.specs.Near as engine_formats_near
-use Rattle.engine_formats.specs.Remarks.{heading_parts}
+use Rattle.file_catalogue.specs.Catalogue as file_catalogue_rows
 use Rattle.engine_checks.specs.Ignores.{ignores_in}
 use Rattle.engine_checks.specs.Links.{links_outcome, links_reported}
 use Rattle.engine_checks.specs.Reported.{file_reported}
@@ -227,7 +227,7 @@ writing = tt
 unfoldable checking : ⊤
 unfolding placed_findings lints_of_rule placed_lints given_in form_of matter_of pair_findings beginning part_ways parts_from_all
     is_same is_against said_of words_of findings_as rule_remarks token_remarks file_remarks value_fault
-    engine_reports_checks.summary_line remark_of gcc_line plain_line spot_of heading_parts ignores_in file_reported
+    engine_reports_checks.summary_line remark_of gcc_line plain_line spot_of row_on file_catalogue_rows.messages file_catalogue_rows.lints ignores_in file_reported
     file_faults line_faults section_after joined_after joined_lines link_form_of asks_address asks_machine asks_name
     asks_system link_faults links_outcome links_reported database_lints database_outcome
 checking = tt

@@ -4,8 +4,7 @@ use Rattle.text_bytes.specs.declared.source_file.FileKind.{FileKind}
 use Rattle.text_bytes.specs.Text.{Text}
 use Rattle.json.specs.Json.{Json, null, string}
 use Rattle.text_json.specs.Values.{object_of}
-use Rattle.devdry_explanations.specs.Texts.{section_of}
-use Rattle.engine_formats.specs.Codes.{remark_of}
+use Rattle.file_catalogue.specs.Sections.{explanation}
 use Rattle.lsp_diagnostics.specs.Documents.{kind_of}
 use Rattle.lsp_texts.specs.declared.counting.Encoding.{Encoding}
 use Rattle.lsp_words.specs.Codes.{code_at}
@@ -26,8 +25,8 @@ told_value encoding spot found =
 -- the section on a code that stands in a row, if there is such a code
 abbrev pub section_found : Text → CodeWord → Option Found
 section_found row word =
-    option_map (λ remark. record { start = word.start; end = word.end; text = section_of remark })
-    (remark_of (take (word.end - word.start) (drop word.start row)))
+    option_map (λ section. record { start = word.start; end = word.end; text = section })
+    (explanation (take (word.end - word.start) (drop word.start row)))
 
 -- what is told about a word in a comment: the section on it, if it is a code
 abbrev pub found_in_comment : FileKind → Spot → Option Found

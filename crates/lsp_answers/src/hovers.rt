@@ -7,8 +7,7 @@ ghost use Rattle.lsp_answers.specs.Queries.{shown};
 
 use crate::queries::Query;
 use crate::spots::{Spot, spot_at, write_row_range};
-use devdry_explanations::section_on;
-use engine_formats::remark_of;
+use file_catalogue::explanation;
 use json::Writer;
 use lsp_diagnostics::kind_of;
 use lsp_texts::Encoding;
@@ -63,11 +62,11 @@ fn section_found(row: &[u8], word: CodeWord) -> Option<Meaning>
     requires within { word.end ≤ length row.now }
     ensures { option_map shown_meaning result ≡ section_found row.now word }
 {
-    let remark = remark_of(&row[word.start..word.end])?;
+    let text = explanation(&row[word.start..word.end])?;
     Some(Meaning {
         start: word.start,
         end: word.end,
-        text: section_on(remark),
+        text,
     })
 }
 

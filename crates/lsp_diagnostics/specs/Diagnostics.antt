@@ -9,7 +9,7 @@ use Rattle.text_json.specs.Values.{array_of, number_value, object_of}
 use Rattle.engine_ends.specs.Places.{word_part}
 use Rattle.engine_formats.specs.Diagnostics.{DiagnosticValue}
 use Rattle.engine_formats.specs.Hints.{advice_for}
-use Rattle.engine_formats.specs.Remarks.{code_of, severity_of, text_of}
+use Rattle.file_catalogue.specs.Catalogue.{code_of, severity_of, text_of}
 use Rattle.lsp_texts.specs.Units.{units}
 use Rattle.lsp_texts.specs.declared.rows.Position.{Position}
 use Rattle.lsp_texts.specs.declared.counting.Encoding.{Encoding}

@@ -9,8 +9,8 @@ use Rattle.text_json.specs.Values.{array_of, object_of}
 use Rattle.file_messages.specs.declared.message.MessageKind.TheVariants.{UnknownKey}
 use Rattle.engine_formats.specs.Diagnostics.{DiagnosticValue}
 use Rattle.engine_formats.specs.Meant.{meant_as}
-use Rattle.engine_formats.specs.declared.remark.Remark.{Remark}
-use Rattle.engine_formats.specs.declared.remark.Remark.TheVariants as about
+use Rattle.file_catalogue.specs.declared.remark.Remark.{Remark}
+use Rattle.file_catalogue.specs.declared.remark.Remark.TheVariants as about
 use Rattle.lsp_settings.specs.Settings.{Settings}
 use Rattle.lsp_texts.specs.declared.counting.Encoding.{Encoding}
 use Rattle.lsp_diagnostics.specs.Diagnostics.{diagnostic_range}

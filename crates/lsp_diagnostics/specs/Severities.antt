@@ -7,10 +7,10 @@ use Rattle.hwdb_lints.specs.declared.lint.DatabaseLint.{DatabaseLint}
 use Rattle.hwdb_lints.specs.declared.lint.DatabaseLint.TheVariants.{MatchTwice, PropertyTwice}
 use Rattle.rule_lints.specs.declared.lint.Lint.{Lint}
 use Rattle.rule_lints.specs.declared.lint.Lint.TheVariants.{AlwaysHolds, NeverReached}
-use Rattle.engine_formats.specs.declared.remark.Remark.{Remark}
-use Rattle.engine_formats.specs.declared.remark.Remark.TheVariants as about
-use Rattle.engine_formats.specs.declared.remark.Severity.{Severity}
-use Rattle.engine_formats.specs.declared.remark.Severity.TheVariants.{Error, Warning}
+use Rattle.file_catalogue.specs.declared.remark.Remark.{Remark}
+use Rattle.file_catalogue.specs.declared.remark.Remark.TheVariants as about
+use Rattle.file_catalogue.specs.declared.remark.Severity.{Severity}
+use Rattle.file_catalogue.specs.declared.remark.Severity.TheVariants.{Error, Warning}
 
 -- the number by which the protocol knows how severe something is
 abbrev pub severity_number : Severity → ℕ

@@ -10,7 +10,8 @@ ghost use Rattle.lsp_diagnostics.specs.Fixes.{action, fix_with, fixes, fixes_of,
 use crate::documents::{file_of, kind_of};
 use crate::writing::write_diagnostic_range;
 use engine_checks::{FileRead, diagnostics_of_rules};
-use engine_formats::{Diagnostic, Remark, meant_as};
+use engine_formats::{Diagnostic, meant_as};
+use file_catalogue::Remark;
 use file_messages::MessageKind;
 use json::Writer;
 use lsp_settings::Settings;

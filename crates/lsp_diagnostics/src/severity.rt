@@ -2,7 +2,7 @@
 ghost use Rattle.std.specs.Prelude.{◌≡◌};
 ghost use Rattle.lsp_diagnostics.specs.Severities.{severity_number, tag_of, tag_of_database, tag_of_lint, tag_of_message};
 
-use engine_formats::{Remark, Severity};
+use file_catalogue::{Remark, Severity};
 use file_messages::MessageKind;
 use hwdb_lints::DatabaseLint;
 use rule_lints::Lint;

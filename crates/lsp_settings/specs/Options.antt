@@ -7,7 +7,7 @@ use Rattle.text_bytes.specs.Text.{Text}
 use Rattle.text_tables.specs.Texts.{is_among}
 use Rattle.devdry_options.specs.Words.{is_word}
 use Rattle.engine_ends.specs.Places.{word_part}
-use Rattle.engine_formats.specs.Ignored.{ignored_codes, unknown_ignored}
+use Rattle.file_catalogue.specs.Ignored.{ignored_codes, unknown_ignored}
 use Rattle.lsp_settings.specs.Settings.{Settings}
 
 -- how `--ignore` begins

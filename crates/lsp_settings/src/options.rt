@@ -8,7 +8,7 @@ ghost use Rattle.lsp_settings.specs.declared.options.SettingsFault.TheVariants.{
 use crate::settings::Settings;
 use devdry_options::is_word;
 use engine_ends::push_word;
-use engine_formats::{ignored_codes, unknown_ignored};
+use file_catalogue::{ignored_codes, unknown_ignored};
 use std::alloc::{AllocError, Global};
 use text_bytes::{Bytes, Profile};
 use text_tables::is_name_among;

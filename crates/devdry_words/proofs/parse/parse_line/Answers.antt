@@ -1,16 +1,14 @@
-use Rattle.std.proofs.Common.{◌≡◌, ◌∙◌, ◌⊎◌, inl, inr, List, [], None, Option, Some, Result, Ok, Err, IfErr, IfOk, ap, codes, map, refl, string_bytes, String, sym, subst, true}
+use Rattle.std.proofs.Common.{◌≡◌, ◌∙◌, ◌⊎◌, inl, inr, List, [], Some, None, Option, Result, Ok, Err, IfErr, IfOk, ap, codes, map, refl, string_bytes, String, sym, subst, true}
 use Rattle.std.specs.Prelude.{IsSomeAnd, MatchOption}
 use Rattle.std.specs.declared.alloc.Global.{Global}
 use Rattle.std.proofs.lemmas.Result.{IfErr-weaker}
 use Rattle.clap.specs.Words.{App, IsAmong, Kinds, Row, Text, fault_of, is_simple_and_free, subcommand_of, takes}
 use Rattle.clap.specs.declared.error.kind.ErrorKind.{ErrorKind}
 use Rattle.clap.specs.declared.error.kind.ErrorKind.TheVariants as kind
-use Rattle.engine_formats.specs.declared.remark.Remark.{Remark}
 use Rattle.engine_ends.specs.declared.line.Request.{Request}
 use Rattle.engine_ends.specs.declared.line.LineFault.{LineFault}
 use Rattle.engine_ends.specs.declared.line.LineFault.TheVariants.{Help, Usage, Memory}
-use Rattle.devdry_explanations.specs.Codes.{remark_with}
-use Rattle.devdry_explanations.specs.Sections.{IsSectionOn}
+use Rattle.file_catalogue.specs.Sections.{explanation}
 use Rattle.devdry_words.specs.Commands.{devdry}
 use Rattle.devdry_words.specs.Answers.{AnswersWords, no_such_code}
 use Rattle.devdry_words.specs.Named.{AnswersKind, AnswersSubcommand, Explains, IsHelpWith, IsUsageOf, NamesSubcommand}
@@ -27,26 +25,26 @@ always (Ok x) p = p
 always (Err e) p = tt
 
 -- help for `explain`
-section : (found : Option Remark) (said : Text) (text : String Global) → MatchOption found (IsUsageOf said (Help text)) (λ remark. IsHelpWith (IsSectionOn remark) (Help text)) → IsSomeAnd found (λ remark. IsSectionOn remark (string_bytes text))
+section : (found : Option Text) (said : Text) (text : String Global) → MatchOption found (IsUsageOf said (Help text)) (λ section. IsHelpWith (λ said. said ≡ section) (Help text)) → found ≡ Some (string_bytes text)
 section None said text h = absurd h
-section (Some remark) said text h = h
+section (Some section) said text h = ap Some (sym h)
 
 -- usage for `explain`
-unknown : (found : Option Remark) (said : Text) (text : String Global) → MatchOption found (IsUsageOf said (Usage text)) (λ remark. IsHelpWith (IsSectionOn remark) (Usage text)) → (found ≡ None) × (string_bytes text ≡ said)
+unknown : (found : Option Text) (said : Text) (text : String Global) → MatchOption found (IsUsageOf said (Usage text)) (λ section. IsHelpWith (λ said. said ≡ section) (Usage text)) → (found ≡ None) × (string_bytes text ≡ said)
 unknown None said text h = (refl, h)
-unknown (Some remark) said text h = absurd h
+unknown (Some section) said text h = absurd h
 
 -- help that `devdry` itself gives, by why the matches are refused
 help_on : (refused : Option Refusal) (A : Type 0) (rows : List Row) (text : String Global) → MatchOption refused (A × Explains (text_of (codes "CODE") rows) (Help text)) (λ r. IsUsageOf (said_of r rows) (Help text))
-    → (refused ≡ None) × A × IsSomeAnd (remark_with (text_of (codes "CODE") rows)) (λ remark. IsSectionOn remark (string_bytes text))
-help_on None A rows text h = (refl, h.0, section (remark_with (text_of (codes "CODE") rows)) (invalid_value (text_of (codes "CODE") rows) no_such_code) text h.1)
+    → (refused ≡ None) × A × (explanation (text_of (codes "CODE") rows) ≡ Some (string_bytes text))
+help_on None A rows text h = (refl, h.0, section (explanation (text_of (codes "CODE") rows)) (invalid_value (text_of (codes "CODE") rows) no_such_code) text h.1)
 help_on (Some r) A rows text h = absurd h
 
 -- usage that it gives
 usage_on : (refused : Option Refusal) (A : Type 0) (rows : List Row) (text : String Global) → MatchOption refused (A × Explains (text_of (codes "CODE") rows) (Usage text)) (λ r. IsUsageOf (said_of r rows) (Usage text))
-    → MatchOption refused (A × (remark_with (text_of (codes "CODE") rows) ≡ None) × (string_bytes text ≡ invalid_value (text_of (codes "CODE") rows) no_such_code)) (λ r. string_bytes text ≡ said_of r rows)
+    → MatchOption refused (A × (explanation (text_of (codes "CODE") rows) ≡ None) × (string_bytes text ≡ invalid_value (text_of (codes "CODE") rows) no_such_code)) (λ r. string_bytes text ≡ said_of r rows)
 usage_on None A rows text h =
-    let parts = unknown (remark_with (text_of (codes "CODE") rows)) (invalid_value (text_of (codes "CODE") rows) no_such_code) text h.1 in
+    let parts = unknown (explanation (text_of (codes "CODE") rows)) (invalid_value (text_of (codes "CODE") rows) no_such_code) text h.1 in
     (h.0, parts.0, parts.1)
 usage_on (Some r) A rows text h = h
 

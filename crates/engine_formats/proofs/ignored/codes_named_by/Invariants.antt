@@ -1,6 +1,0 @@
-use Rattle.std.proofs.Common.{◌≡◌, flat_map, map, take}
-use Rattle.engine_formats.specs.Ignored.{codes_named}
-use Rattle.engine_formats.proofs.ignored.codes_named_by.Given as goal
-
-abbrev pub invariant-loop-part : goal.invariant-loop-part
-invariant-loop-part l = map (λ c. c.now) l.named.items ≡ flat_map codes_named (map (λ p. p.now) (take l.part-index l.parts))

@@ -1,0 +1,5 @@
+pub mod Each
+pub mod Found
+mod Rows
+pub mod Telling
+mod Unknown

@@ -1,0 +1,3 @@
+pub mod Catalogue
+pub mod Ignored
+pub mod Sections

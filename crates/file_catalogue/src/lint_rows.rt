@@ -1,0 +1,292 @@
+//! The rows on lints and comments.
+
+use crate::remark::{Remark, Row};
+use hwdb_lints::DatabaseLint;
+use link_lints::LinkFault;
+use rule_lints::Lint;
+
+/// The row of each other code: W of lints of rules, D of a database, L of `.link` files, and I on comments.
+pub(crate) const LINTS: [Row; 47] = [
+    (
+        Remark::Lint(Lint::ModeNotOctal),
+        "W1",
+        "mode is no octal number",
+        "Write the mode in octal digits, such as 0660.",
+    ),
+    (
+        Remark::Lint(Lint::SignOfShell),
+        "W2",
+        "sign of the shell, and no shell",
+        "No shell runs the command: put /bin/sh -c before it, or remove the sign.",
+    ),
+    (
+        Remark::Lint(Lint::RelativeProgram),
+        "W3",
+        "program without a path",
+        "Write the full path of the program.",
+    ),
+    (
+        Remark::Lint(Lint::LetterCase),
+        "W4",
+        "letter case that the kernel does not write",
+        "Write lower case in these attributes, and upper case in the numbers of a modalias.",
+    ),
+    (
+        Remark::Lint(Lint::NoSuchDevice),
+        "W5",
+        "attributes of different devices",
+        "All ATTRS of a rule are compared with one device: use a rule for each device.",
+    ),
+    (
+        Remark::Lint(Lint::ImportedBelow),
+        "W6",
+        "property imported further down",
+        "Put the rule below the import of the property, in this file or in a later one.",
+    ),
+    (
+        Remark::Lint(Lint::MeantToCompare),
+        "W7",
+        "value assigned that others compare",
+        "Write == to compare the value, or put the assignment after the matches.",
+    ),
+    (
+        Remark::Lint(Lint::NameOutsideNet),
+        "W8",
+        "name outside net",
+        "Only network devices can be renamed: give other devices a SYMLINK.",
+    ),
+    (
+        Remark::Lint(Lint::LinkWithDev),
+        "W9",
+        "link begins with /dev/",
+        "Remove /dev/: a link is made there without it.",
+    ),
+    (
+        Remark::Lint(Lint::QuotedName),
+        "W10",
+        "name in quotes",
+        "Write the name in braces without quotes.",
+    ),
+    (
+        Remark::Lint(Lint::NotAPattern),
+        "W11",
+        "regular expression in a pattern",
+        "A pattern has *, ?, [..] and |, and is compared with the whole value.",
+    ),
+    (
+        Remark::Lint(Lint::AlwaysHolds),
+        "W12",
+        "match that always holds",
+        "Remove the match, or write ?* for any value but the empty one.",
+    ),
+    (
+        Remark::Lint(Lint::NeverReached),
+        "W13",
+        "rule never reached",
+        "Remove this rule, or give the rule above it a match.",
+    ),
+    (
+        Remark::Lint(Lint::NoPatternForUdev),
+        "W14",
+        "no pattern for udev",
+        "Write * for any tag, link or property, and the name of a file after TEST.",
+    ),
+    (
+        Remark::Lint(Lint::NoMatch),
+        "W15",
+        "rule without a match",
+        "Give the rule a match: without one it is for every device.",
+    ),
+    (
+        Remark::Lint(Lint::NeverFits),
+        "W16",
+        "value that never fits",
+        "Write the value as the kernel does: no device has this one.",
+    ),
+    (
+        Remark::Lint(Lint::BlankBesideBar),
+        "W17",
+        "blank beside a bar",
+        "Remove the blanks beside |: they are compared too.",
+    ),
+    (
+        Remark::Lint(Lint::UnknownName),
+        "W18",
+        "name near a known one",
+        "Write the known name or key, if that was meant.",
+    ),
+    (
+        Remark::Lint(Lint::NotSubstituted),
+        "W19",
+        "no substitution",
+        "Write $name or %c{1}; in a match nothing is substituted.",
+    ),
+    (
+        Remark::Lint(Lint::ListReplaced),
+        "W20",
+        "list replaced",
+        "Write += to add, or := if no other value is wanted.",
+    ),
+    (
+        Remark::Lint(Lint::MeantAsMatch),
+        "W21",
+        "value assigned instead of compared",
+        "Write == to compare the value.",
+    ),
+    (
+        Remark::Lint(Lint::NameTooLong),
+        "W22",
+        "name of a network device too long",
+        "Choose a name of at most 15 bytes.",
+    ),
+    (
+        Remark::Lint(Lint::WantedWithoutTag),
+        "W23",
+        "unit wanted without a tag",
+        "Add TAG+=\"systemd\" to the rule.",
+    ),
+    (
+        Remark::Lint(Lint::ForbiddenCommand),
+        "W24",
+        "command that cannot work",
+        "Start a service by SYSTEMD_WANTS, or run systemd-mount.",
+    ),
+    (
+        Remark::Lint(Lint::NoResultYet),
+        "W25",
+        "result before its program",
+        "Move PROGRAM to this rule, or to one above.",
+    ),
+    (
+        Remark::Lint(Lint::LinkOfNet),
+        "W26",
+        "link of a network device",
+        "Give the interface a NAME: it has no node, and so no links.",
+    ),
+    (
+        Remark::Lint(Lint::TagTooLate),
+        "W27",
+        "tag uaccess in a late file",
+        "Give the file a name before 73-seat-late.rules, such as 70-mine.rules.",
+    ),
+    (
+        Remark::DatabaseLint(DatabaseLint::DigitCase),
+        "D1",
+        "case of a digit that no modalias has",
+        "Write the digits in capitals for usb:, pci: and the kernel's other buses, and in small letters for mouse: and the like.",
+    ),
+    (
+        Remark::DatabaseLint(DatabaseLint::NoModalias),
+        "D2",
+        "match that no modalias fits",
+        "Write the numbers with all their digits, in the order in which the modaliases of the prefix have them.",
+    ),
+    (
+        Remark::DatabaseLint(DatabaseLint::EndMissing),
+        "D3",
+        "end of a match is missing",
+        "End the match with *, since modaliases go on behind it.",
+    ),
+    (
+        Remark::DatabaseLint(DatabaseLint::UnknownPrefix),
+        "D4",
+        "unknown prefix",
+        "Begin the match with a prefix that udev's rules look up, such as usb: or evdev:.",
+    ),
+    (
+        Remark::DatabaseLint(DatabaseLint::MatchTwice),
+        "D5",
+        "match given twice",
+        "Put the properties of both records into one: where both have a property, the later counts.",
+    ),
+    (
+        Remark::DatabaseLint(DatabaseLint::PropertyTwice),
+        "D6",
+        "property given twice",
+        "Remove one of the two: the later counts.",
+    ),
+    (
+        Remark::DatabaseLint(DatabaseLint::BlankAtEquals),
+        "D7",
+        "blank beside the =",
+        "Remove the blanks: they belong to the key or to the value.",
+    ),
+    (
+        Remark::DatabaseLint(DatabaseLint::OddName),
+        "D8",
+        "key that no program asks for",
+        "Write the key in capitals, digits and _, and codes behind KEYBOARD_KEY_ and EVDEV_ABS_ in small letters.",
+    ),
+    (
+        Remark::DatabaseLint(DatabaseLint::BlankAtEnd),
+        "D9",
+        "blank at the end of a match",
+        "Remove the blank, which is no part of the match.",
+    ),
+    (
+        Remark::DatabaseLint(DatabaseLint::ByteOrderMark),
+        "D10",
+        "byte order mark",
+        "Save the file as UTF-8 without a byte order mark, which makes its first line a match that fits nothing.",
+    ),
+    (
+        Remark::DatabaseLint(DatabaseLint::CutWord),
+        "D11",
+        "comment within a word",
+        "A # begins a comment wherever it stands: write something else, or a blank before it.",
+    ),
+    (
+        Remark::DatabaseLint(DatabaseLint::OpenSet),
+        "D12",
+        "set without ]",
+        "Close the set with ], or write [[] for the bracket itself.",
+    ),
+    (
+        Remark::DatabaseLint(DatabaseLint::WrongValue),
+        "D13",
+        "value that the property does not take",
+        "Write a value of the form that the property has in the files of hwdb.d.",
+    ),
+    (
+        Remark::LinkFault(LinkFault::UnknownSection),
+        "L1",
+        "unknown section",
+        "Write [Match], [Link], [SR-IOV] or [EnergyEfficientEthernet]: all of another section is skipped, and names that begin with X- are free to use.",
+    ),
+    (
+        Remark::LinkFault(LinkFault::UnknownKey),
+        "L2",
+        "unknown key",
+        "Write a key that systemd.link(5) has for the section, with its capitals: a line of another one is skipped.",
+    ),
+    (
+        Remark::LinkFault(LinkFault::BadLine),
+        "L3",
+        "bad line",
+        "Write KEY=VALUE below a section, [SECTION], or a comment that begins with # or ;.",
+    ),
+    (
+        Remark::LinkFault(LinkFault::BadValue),
+        "L4",
+        "bad value",
+        "Write a value that systemd.link(5) has for the key: any other has no effect.",
+    ),
+    (
+        Remark::LinkFault(LinkFault::NoInterface),
+        "L5",
+        "file for no interface",
+        "Give a key of [Match], such as OriginalName=*, by which the file is for an interface.",
+    ),
+    (
+        Remark::IdleIgnore,
+        "I1",
+        "nothing to ignore",
+        "Remove the code from the comment, which silences nothing.",
+    ),
+    (
+        Remark::UnknownCode,
+        "I2",
+        "unknown code",
+        "Write \"ignore\" or \"ignore-file\", a space, and codes such as V6,S2.",
+    ),
+];

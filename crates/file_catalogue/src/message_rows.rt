@@ -1,0 +1,236 @@
+//! The rows on messages.
+
+use crate::remark::{Remark, Row};
+use file_messages::MessageKind;
+
+/// The row of each code of a message: V and S on rules, H on the database.
+pub(crate) const MESSAGES: [Row; 38] = [
+    (
+        Remark::Message(MessageKind::BadSyntax),
+        "V1",
+        "bad syntax",
+        "No KEY{attribute} operator \"value\" begins here: most often a quote is missing.",
+    ),
+    (
+        Remark::Message(MessageKind::UnknownKey),
+        "V2",
+        "unknown key",
+        "Keys are written in capitals, and those that look at a parent end in S.",
+    ),
+    (
+        Remark::Message(MessageKind::OperatorNotAllowed),
+        "V3",
+        "operator not allowed",
+        "Use == or != to compare, and another operator to assign: this key takes only some of them.",
+    ),
+    (
+        Remark::Message(MessageKind::WrongAttribute),
+        "V4",
+        "attribute missing or not allowed",
+        "ATTR, ENV and a few more need a name in braces; most other keys take none.",
+    ),
+    (
+        Remark::Message(MessageKind::BadValue),
+        "V5",
+        "bad value",
+        "Use one of the values that this key takes.",
+    ),
+    (
+        Remark::Message(MessageKind::BadSubstitution),
+        "V6",
+        "bad substitution",
+        "Write one of udev's names or letters after $ and %; the signs themselves are $$ and %%.",
+    ),
+    (
+        Remark::Message(MessageKind::NoLaterLabel),
+        "V7",
+        "no later label",
+        "A jump goes forward only, and stays in its file: give a later rule this label.",
+    ),
+    (
+        Remark::Message(MessageKind::GivenTwice),
+        "V8",
+        "label or goto given twice",
+        "A rule has one label and one jump; the later ones are dropped.",
+    ),
+    (
+        Remark::Message(MessageKind::LineTooLong),
+        "V9",
+        "line too long",
+        "A rule has at most 16,384 bytes, its continued lines together.",
+    ),
+    (
+        Remark::Message(MessageKind::BadPrefix),
+        "V10",
+        "bad quote prefix",
+        "Only e, for escapes, may come before the quotes, and after == and != also i, to ignore case.",
+    ),
+    (
+        Remark::Message(MessageKind::SetNotSupported),
+        "V11",
+        "set not supported",
+        "A class of the C library depends on the locale: write its members out.",
+    ),
+    (
+        Remark::Message(MessageKind::OpenAtEnd),
+        "V12",
+        "line continuation at the file's end",
+        "Remove the backslash, or add the line that should follow.",
+    ),
+    (
+        Remark::Message(MessageKind::ReservedProperty),
+        "V13",
+        "reserved property",
+        "Only udev itself sets this property: assign another one, or use NAME or SYMLINK.",
+    ),
+    (
+        Remark::Message(MessageKind::NameWithoutEffect),
+        "V14",
+        "name without effect",
+        "Write a name other than the kernel's, or remove NAME.",
+    ),
+    (
+        Remark::Message(MessageKind::UnknownBuiltin),
+        "V15",
+        "unknown builtin",
+        "Begin the value with the name of one of udev's builtins, such as usb_id.",
+    ),
+    (
+        Remark::Message(MessageKind::MatchesExclude),
+        "V16",
+        "matches exclude each other",
+        "Write the two values as one with | between them, or remove one of the matches.",
+    ),
+    (
+        Remark::Message(MessageKind::SaidTwice),
+        "V17",
+        "said twice",
+        "Remove one of the two.",
+    ),
+    (
+        Remark::Message(MessageKind::RuleWithoutEffect),
+        "V18",
+        "rule without effect",
+        "Make the rule assign something, or remove it.",
+    ),
+    (
+        Remark::Message(MessageKind::ResultBeforeProgram),
+        "V19",
+        "RESULT before PROGRAM",
+        "Put PROGRAM before RESULT.",
+    ),
+    (
+        Remark::Message(MessageKind::EmptyValue),
+        "V20",
+        "empty value",
+        "Write a value, or remove the key.",
+    ),
+    (
+        Remark::Message(MessageKind::BadAttributeSubstitution),
+        "V21",
+        "bad substitution in an attribute",
+        "In an attribute's name, too, write one of udev's names or letters after $ and %.",
+    ),
+    (
+        Remark::Message(MessageKind::AttributeElsewhere),
+        "V22",
+        "attribute of another device",
+        "Leave device/ and ../ out: ATTRS looks at each parent.",
+    ),
+    (
+        Remark::Message(MessageKind::OldSubsystemName),
+        "V23",
+        "old name of a subsystem",
+        "Write subsystem, which fits the same devices.",
+    ),
+    (
+        Remark::Message(MessageKind::AssignExpected),
+        "V24",
+        "operator read as =",
+        "The key has no := or += of its own: write =.",
+    ),
+    (
+        Remark::Message(MessageKind::UnknownAccount),
+        "V25",
+        "unknown user or group",
+        "Write the name of an existing user or group, or a number.",
+    ),
+    (
+        Remark::Message(MessageKind::FileAbandoned),
+        "V26",
+        "file with a line too long",
+        "Split the line: udev reads nothing of a file with a line of 16,384 bytes or more.",
+    ),
+    (
+        Remark::Message(MessageKind::CommaExpected),
+        "S1",
+        "one comma expected",
+        "Put one comma between two tokens, and none after the last.",
+    ),
+    (
+        Remark::Message(MessageKind::BlankExpected),
+        "S2",
+        "blank after a comma expected",
+        "Put a space after the comma.",
+    ),
+    (
+        Remark::Message(MessageKind::ReadAsAssign),
+        "S3",
+        "operator read as =",
+        "The key has no := or += of its own: write =.",
+    ),
+    (
+        Remark::Message(MessageKind::LabelUnused),
+        "S4",
+        "label unused",
+        "Remove the label, or correct the GOTO that should go to it.",
+    ),
+    (
+        Remark::Message(MessageKind::LeadingComma),
+        "S5",
+        "comma before the first token",
+        "Remove the comma before the first token.",
+    ),
+    (
+        Remark::Message(MessageKind::BlankBeforeComma),
+        "S6",
+        "blank before a comma",
+        "Remove the blank before the comma.",
+    ),
+    (
+        Remark::Message(MessageKind::PropertyWithoutMatch),
+        "H1",
+        "property without a match",
+        "Put the match above its properties.",
+    ),
+    (
+        Remark::Message(MessageKind::MatchWithoutProperty),
+        "H2",
+        "match without a property",
+        "Put the properties below the match, each after a space.",
+    ),
+    (
+        Remark::Message(MessageKind::UnindentedLine),
+        "H3",
+        "unindented line after properties",
+        "Put an empty line between two records.",
+    ),
+    (
+        Remark::Message(MessageKind::NoEquals),
+        "H4",
+        "no =",
+        "A property is written KEY=VALUE.",
+    ),
+    (
+        Remark::Message(MessageKind::EmptyKey),
+        "H5",
+        "empty key",
+        "Write the property's key before the =.",
+    ),
+    (
+        Remark::Message(MessageKind::PatternNotSupported),
+        "H6",
+        "pattern not supported",
+        "A class of the C library depends on the locale: write its members out.",
+    ),
+];

@@ -37,7 +37,8 @@ use Rattle.eval_rules.specs.Idle.{is_idle}
 use Rattle.eval_rules.specs.Jumps.{is_passed, sought_after}
 use Rattle.eval_rules.specs.Steps.{Went, apply, before_sets, plain_step, walk}
 use Rattle.eval_rules.specs.declared.outcome.Outcome.{Outcome}
-use Rattle.eval_unread.specs.Others.{ask_others, change_asks, is_of_others, piece_asks, rule_asks, up_asks}
+use Rattle.eval_unread.specs.Given.{is_of_others}
+use Rattle.eval_unread.specs.Others.{ask_others, change_asks, piece_asks, rule_asks, up_asks}
 use Rattle.eval_unread.specs.Unread.{is_rendered_for, rendered_pieces, name_unread, rule_unread, rules_unread, search_unread, searched_unread, unread, unread_after, unread_at, unread_place, unread_by, unread_from, unread_of, with_notes}
 
 -- the first of two that are both false, and the second

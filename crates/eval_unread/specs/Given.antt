@@ -1,11 +1,12 @@
 -- The note on a block that gives no attribute of any device, if a rule looks at one.
-use Rattle.std.specs.Prelude.{Bool, not, ◌&&◌, if◌then◌else◌, List, [], ◌∷◌, Option, Some, None, codes, option_map}
+use Rattle.std.specs.Prelude.{Bool, not, ◌&&◌, ◌||◌, if◌then◌else◌, List, [], ◌∷◌, Option, Some, None, codes, option_map}
 use Rattle.std.specs.List.{list_all}
 use Rattle.std.specs.Option.{option_or}
 use Rattle.text_bytes.specs.declared.profile.Profile.{Profile}
 use Rattle.text_bytes.specs.declared.profile.Profile.TheVariants.{Manual, Udev}
 use Rattle.text_bytes.specs.Text.{Text}
-use Rattle.text_bytes.specs.Texts.{is_empty}
+use Rattle.text_bytes.specs.Names.{dot, open_bracket}
+use Rattle.text_bytes.specs.Texts.{begins_with, is_empty}
 use Rattle.text_tables.specs.Texts.{same_text}
 use Rattle.rule_types.specs.declared.part.PlainMatch.{PlainMatch}
 use Rattle.rule_types.specs.declared.part.UpMatch.{UpMatch}
@@ -15,10 +16,15 @@ use Rattle.rule_types.specs.declared.roles.UpKey.{UpKey}
 use Rattle.rule_types.specs.declared.roles.UpKey.TheVariants as up
 use Rattle.rule_types.specs.Rules.{Rule}
 use Rattle.device_core.specs.Values.{DeviceValue, EventValue}
+use Rattle.eval_rendering.specs.Behind.{may_be_untold}
 use Rattle.eval_state.specs.Notes.{note_about}
 use Rattle.eval_state.specs.declared.note_kind.NoteKind.TheVariants.{AttributesNotGiven}
 use Rattle.eval_state.specs.declared.notes.Note.{Note}
-use Rattle.eval_unread.specs.Others.{is_of_others}
+
+-- whether a name may lead to another device, or to what a block does not tell: it begins with `[` or with `.`, leads into a folder, or is
+-- that of a file without a value of one line
+abbrev pub is_of_others : Text → Bool
+is_of_others name = (begins_with open_bracket name || begins_with dot name) || may_be_untold name
 
 -- the name of an attribute that a device has itself: others have notes of their own
 abbrev pub own_name : Text → Option Text

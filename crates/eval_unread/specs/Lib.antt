@@ -1,6 +1,6 @@
 pub mod KernelModes
 pub mod Given
-pub mod Unread
 pub mod Others
+pub mod Unread
 pub mod Inner
 pub mod Laws

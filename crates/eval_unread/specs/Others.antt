@@ -1,9 +1,6 @@
 -- Rules that ask for attributes of which a block may tell nothing: the only ones whose searches and assignments can leave notes.
 use Rattle.std.specs.Prelude.{Bool, false, ◌||◌, List, []}
 use Rattle.std.specs.List.{list_any}
-use Rattle.text_bytes.specs.Names.{dot, open_bracket}
-use Rattle.text_bytes.specs.Texts.{begins_with}
-use Rattle.text_bytes.specs.Text.{Text}
 use Rattle.rule_templates.specs.declared.piece.Piece.{Piece}
 use Rattle.rule_templates.specs.declared.piece.Piece.TheVariants as piece
 use Rattle.rule_types.specs.declared.part.Change.{Change}
@@ -11,12 +8,7 @@ use Rattle.rule_types.specs.declared.part.Change.TheVariants as change
 use Rattle.rule_types.specs.declared.roles.UpKey.{UpKey}
 use Rattle.rule_types.specs.declared.roles.UpKey.TheVariants as up
 use Rattle.rule_types.specs.Rules.{Rule}
-use Rattle.eval_rendering.specs.Behind.{may_be_untold}
-
--- whether a name may lead to another device, or to what a block does not tell: it begins with `[` or with `.`, leads into a folder, or is
--- that of a file without a value of one line
-abbrev pub is_of_others : Text → Bool
-is_of_others name = (begins_with open_bracket name || begins_with dot name) || may_be_untold name
+use Rattle.eval_unread.specs.Given.{is_of_others}
 
 -- whether a piece is an attribute of such a name
 abbrev pub piece_asks : Piece → Bool

@@ -1,7 +1,8 @@
 //! Whether searches and assignments of rules ask for attributes of which a block may tell nothing. It is asked once for all events: rules of which none does
 //! leave no note.
 ghost use Rattle.std.specs.Prelude.{◌≡◌};
-ghost use Rattle.eval_unread.specs.Others.{ask_others, change_asks, is_of_others, piece_asks, pieces_of, rule_asks, up_asks};
+ghost use Rattle.eval_unread.specs.Given.{is_of_others};
+ghost use Rattle.eval_unread.specs.Others.{ask_others, change_asks, piece_asks, pieces_of, rule_asks, up_asks};
 
 use eval_rendering::may_be_untold;
 use rule_templates::Piece;

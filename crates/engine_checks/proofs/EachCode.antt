@@ -1,5 +1,5 @@
 -- The codes of what can be found in a file.
-use Rattle.std.proofs.Common.{◌≡◌, ◌∙◌, true, false, Option, Some, None, ap}
+use Rattle.std.proofs.Common.{◌≡◌, ◌∙◌, true, false, Option, Some, None, refl, ap}
 use Rattle.std.specs.Option.{option_map_or}
 use Rattle.text_bytes.specs.Text.{Text}
 use Rattle.file_catalogue.specs.Catalogue.{code_of, remark_of}
@@ -16,5 +16,5 @@ pub is_named : (code : Text) → is_code code ≡ true → (remark : Remark) × 
 is_named code e = by (remark_of code) refl e
   where
     by : (r : Option Remark) → remark_of code ≡ r → option_map_or is_found r false ≡ true → (remark : Remark) × ((is_found remark ≡ true) × (code_of remark ≡ code))
-    by None h k = cc
+    by None h k = absurd (cc)
     by (Some remark) h k = (remark, (k, each_named code remark h))

@@ -1,5 +1,5 @@
 -- The note on a block without attributes: whose it is, and when there is none.
-use Rattle.std.proofs.Common.{◌≡◌, Bool, true, false, cond, not, ◌&&◌, List, [], ◌∷◌, ◌++◌, is_none, Option, Some, None, option_map, codes, refl, ap, ◌∙◌}
+use Rattle.std.proofs.Common.{◌≡◌, Bool, true, false, cond, not, ◌&&◌, List, [], ◌∷◌, ◌++◌, is_none, Option, Some, None, option_map, option_to_list, codes, refl, ap, sym, ◌∙◌}
 use Rattle.std.specs.List.{list_all}
 use Rattle.std.specs.Option.{option_or}
 use Rattle.text_bytes.specs.Texts.{is_empty}
@@ -12,7 +12,10 @@ use Rattle.device_core.specs.Values.{DeviceValue, EventValue}
 use Rattle.eval_state.specs.Notes.{note_about}
 use Rattle.eval_state.specs.declared.note_kind.NoteKind.TheVariants.{AttributesNotGiven}
 use Rattle.eval_state.specs.declared.notes.Note.{Note}
-use Rattle.eval_unread.specs.Given.{first_looking, gives_none, looked_at, not_given, not_given_by}
+use Rattle.eval_rules.specs.declared.outcome.Outcome.{Outcome}
+use Rattle.eval_unread.specs.Unread.{with_notes}
+use Rattle.eval_unread.proofs.Unasked.{same_outcome}
+use Rattle.eval_unread.specs.Given.{first_looking, gives_none, is_bare, looked_at, not_given, not_given_by}
 
 -- whether none of these rules looks at an attribute
 abbrev none_looks : List Rule → Bool
@@ -76,23 +79,27 @@ never_last true = refl
 never_last false = refl
 
 has_above : (before following : List DeviceValue) (d : DeviceValue) → is_empty d.attrs ≡ false
-    → list_all (λ (device : DeviceValue). is_empty device.attrs) (before ++ d ∷ following) ≡ false
-has_above [] following d has = ap (λ (b : Bool). b && list_all (λ (device : DeviceValue). is_empty device.attrs) following) has
+    → list_all is_bare (before ++ d ∷ following) ≡ false
+has_above [] following d has = ap (λ (b : Bool). b && list_all is_bare following) has
 has_above (e ∷ before) following d has = ap (λ (b : Bool). is_empty e.attrs && b) (has_above before following d has) ∙ never_last (is_empty e.attrs)
 
 pub gone_gives : (event : EventValue) → event.action ≡ codes "remove" → gives_none event ≡ false
 gone_gives event gone =
-    ap (λ (text : Text). not (same_text text (codes "remove")) && (is_empty event.device.attrs && list_all (λ (device : DeviceValue). is_empty device.attrs) event.parents)) gone
+    ap (λ (text : Text). not (same_text text (codes "remove")) && (is_empty event.device.attrs && list_all is_bare event.parents)) gone
 
 pub own_gives : (event : EventValue) → is_empty event.device.attrs ≡ false → gives_none event ≡ false
 own_gives event has =
-    ap (λ (b : Bool). not (same_text event.action (codes "remove")) && (b && list_all (λ (device : DeviceValue). is_empty device.attrs) event.parents)) has
+    ap (λ (b : Bool). not (same_text event.action (codes "remove")) && (b && list_all is_bare event.parents)) has
     ∙ never_last (not (same_text event.action (codes "remove")))
 
 pub above_gives : (event : EventValue) (before following : List DeviceValue) (d : DeviceValue) → event.parents ≡ before ++ d ∷ following → is_empty d.attrs ≡ false
     → gives_none event ≡ false
 above_gives event before following d are has =
     ap (λ (b : Bool). not (same_text event.action (codes "remove")) && (is_empty event.device.attrs && b))
-        (ap (list_all (λ (device : DeviceValue). is_empty device.attrs)) are ∙ has_above before following d has)
+        (ap (list_all is_bare) are ∙ has_above before following d has)
     ∙ ap (λ (b : Bool). not (same_text event.action (codes "remove")) && b) (never_last (is_empty event.device.attrs))
     ∙ never_last (not (same_text event.action (codes "remove")))
+
+-- an outcome stays as it is without a note
+pub none_added : (o : Outcome) (note : Option Note) → None ≡ note → o ≡ with_notes (option_to_list note) o
+none_added o note none = same_outcome o (option_to_list note) (ap option_to_list (sym none))

@@ -59,11 +59,15 @@ unfoldable pub first_looking : List Rule → Option Note
 first_looking [] = None
 first_looking (r ∷ rs) = option_or (option_map (note_about r AttributesNotGiven) (looked_at r)) (first_looking rs)
 
+-- whether a block gives no attribute of a device
+abbrev pub is_bare : DeviceValue → Bool
+is_bare device = is_empty device.attrs
+
 -- whether a block gives no attribute of any device, and its event device is not removed: once it is gone it has none
 abbrev pub gives_none : EventValue → Bool
 gives_none event =
     not (same_text event.action (codes "remove"))
-    && (is_empty event.device.attrs && list_all (λ (device : DeviceValue). is_empty device.attrs) event.parents)
+    && (is_bare event.device && list_all is_bare event.parents)
 
 -- the note on a block without attributes by a profile: by the manual there is none
 abbrev pub not_given_by : Profile → List Rule → EventValue → Option Note

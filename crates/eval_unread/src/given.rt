@@ -1,10 +1,10 @@
 //! The note on a block that gives no attribute of any device, if a rule looks at one.
 ghost use Rattle.std.specs.Prelude.{◌≡◌, IfOk, option_map, option_to_list};
-ghost use Rattle.eval_unread.specs.Given.{first_looking, first_plain, first_up, gives_none, looked_at, not_given, own_name, plain_name, up_name};
+ghost use Rattle.eval_unread.specs.Given.{first_looking, first_plain, first_up, gives_none, is_bare, looked_at, not_given, own_name, plain_name, up_name};
 ghost use Rattle.eval_unread.specs.Unread.{with_notes};
 
 use crate::others::is_of_others;
-use device_core::Event;
+use device_core::{Device, Event};
 use eval_rules::Outcome;
 use eval_state::{Note, NoteKind};
 use rule_types::{PlainKey, PlainMatch, Rule, UpKey, UpMatch};
@@ -87,13 +87,20 @@ fn first_looking(alloc: Global, rules: &[Rule]) -> Result<Option<Note>, AllocErr
     Ok(None)
 }
 
+/// Whether a block gives no attribute of a device.
+fn is_bare(device: &Device<'_>) -> bool
+    ensures { result ≡ is_bare device.now }
+{
+    device.attrs().len() == 0
+}
+
 /// Whether a block gives no attribute of any device, and its event device is not removed.
 fn gives_none(event: &Event<'_>) -> bool
     ensures { result ≡ gives_none event.now }
 {
     event.action() != b"remove".as_slice()
-        && event.device().attrs().len() == 0
-        && event.parents().iter().all(|device| device.attrs().len() == 0)
+        && is_bare(event.device())
+        && event.parents().iter().all(|device| is_bare(device))
 }
 
 /// The note on a block without attributes, by the first rule that looks at one.
@@ -107,6 +114,7 @@ fn not_given(alloc: Global, rules: &[Rule], event: &Event<'_>) -> Result<Option<
 }
 
 /// An outcome with the note on a block without attributes after its own. If memory runs out, the outcome is dropped.
+#[tactic(auto, using(crate::proofs::FirstLooking::none_added))]
 pub(crate) fn with_not_given<'o>(
     alloc: Global,
     rules: &[Rule],
@@ -115,9 +123,11 @@ pub(crate) fn with_not_given<'o>(
 ) -> Result<Outcome<'o>, AllocError>
     ensures { IfOk result (λ all. all ≡ with_notes (option_to_list (not_given rules.now event.now)) outcome.entry) }
 {
-    let Some(note) = not_given(alloc, rules, event)? else {
-        return Ok(outcome);
-    };
-    outcome.notes.add(note)?;
-    Ok(outcome)
+    match not_given(alloc, rules, event)? {
+        Some(note) => {
+            outcome.notes.add(note)?;
+            Ok(outcome)
+        }
+        None => Ok(outcome),
+    }
 }

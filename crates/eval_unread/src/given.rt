@@ -1,5 +1,6 @@
 //! The note on a block that gives no attribute of any device, if a rule looks at one.
 ghost use Rattle.std.specs.Prelude.{◌≡◌, IfOk, option_map, option_to_list};
+ghost use Rattle.std.specs.List.{list_all};
 ghost use Rattle.eval_unread.specs.Given.{first_looking, first_plain, first_up, gives_none, is_bare, looked_at, not_given, own_name, plain_name, up_name};
 ghost use Rattle.eval_unread.specs.Unread.{with_notes};
 
@@ -94,13 +95,20 @@ fn is_bare(device: &Device<'_>) -> bool
     device.attrs().len() == 0
 }
 
+/// Whether a block gives no attribute of any of these devices.
+fn are_bare(devices: &[Device<'_>]) -> bool
+    ensures { result ≡ list_all is_bare devices.now }
+{
+    devices.iter().all(|device| is_bare(device))
+}
+
 /// Whether a block gives no attribute of any device, and its event device is not removed.
 fn gives_none(event: &Event<'_>) -> bool
     ensures { result ≡ gives_none event.now }
 {
     event.action() != b"remove".as_slice()
         && is_bare(event.device())
-        && event.parents().iter().all(|device| is_bare(device))
+        && are_bare(event.parents())
 }
 
 /// The note on a block without attributes, by the first rule that looks at one.

@@ -96,7 +96,7 @@ pub above_gives : (event : EventValue) (before following : List DeviceValue) (d 
     → gives_none event ≡ false
 above_gives event before following d are has =
     ap (λ (b : Bool). not (same_text event.action (codes "remove")) && (is_empty event.device.attrs && b))
-        (ap (list_all is_bare) are ∙ has_above before following d has)
+    (ap (list_all is_bare) are ∙ has_above before following d has)
     ∙ ap (λ (b : Bool). not (same_text event.action (codes "remove")) && b) (never_last (is_empty event.device.attrs))
     ∙ never_last (not (same_text event.action (codes "remove")))
 

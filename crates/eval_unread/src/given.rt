@@ -106,9 +106,7 @@ fn are_bare(devices: &[Device<'_>]) -> bool
 fn gives_none(event: &Event<'_>) -> bool
     ensures { result ≡ gives_none event.now }
 {
-    event.action() != b"remove".as_slice()
-        && is_bare(event.device())
-        && are_bare(event.parents())
+    event.action() != b"remove".as_slice() && is_bare(event.device()) && are_bare(event.parents())
 }
 
 /// The note on a block without attributes, by the first rule that looks at one.

@@ -1,5 +1,5 @@
 -- Where no text asks for anything, nothing is told.
-use Rattle.std.proofs.Common.{◌≡◌, Bool, true, false, cond, List, [], ◌∷◌, ◌++◌, Option, None, flat_map, append-nil, refl, ap, sym, ◌∙◌}
+use Rattle.std.proofs.Common.{◌≡◌, Bool, true, false, cond, ◌==◌, List, [], ◌∷◌, ◌++◌, length, map, Bor, Option, None, flat_map, append-nil, refl, ap, sym, ◌∙◌, arith}
 use Rattle.file_messages.specs.declared.message.Message.{Message}
 use Rattle.text_bytes.specs.Text.{Text}
 use Rattle.rule_types.specs.Rules.{Rule}
@@ -40,6 +40,11 @@ unfolding why_lines
 none_told messages rules known event =
     ap (λ (left : List Message). unread_lines left ++ flat_map rule_lines (reported_from [] known no_since None (tried event rules) (start event))) (none_unread messages rules)
     ∙ ap (flat_map rule_lines) (none_reported known no_since None (tried event rules) (start event))
+
+-- no text at all
+pub none_asked : (why : List (Bor Text)) → (length why == 0) ≡ true → map (λ t. t.now) why ≡ []
+none_asked [] none = refl
+none_asked (text ∷ why) none = let some : (length (text ∷ why) == 0) ≡ false = grind arith in cc
 
 -- lines stay as they are if nothing is added
 pub stays : (lines : Text) (why : List Text) (messages : List Message) (rules : List Rule) (known : Known) (event : EventValue) → why ≡ []

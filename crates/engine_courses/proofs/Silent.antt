@@ -17,7 +17,9 @@ use Rattle.engine_courses.specs.WhyLines.{jumping_after, reported_from, rule_lin
 none_reported : (known : Known) (since : Since) (jumping : Option Rule) (rules : List Rule) (s : Scene) → reported_from [] known since jumping rules s ≡ []
 unfolding reported_from
 none_reported known since jumping [] s = refl
-none_reported known since jumping (r ∷ rs) s = by (is_passed (sought_by jumping) r)
+none_reported known since jumping (r ∷ rs) s =
+    by (is_passed (sought_by jumping) r) (none_reported known since jumping rs s)
+    (none_reported known (since_after since r (apply known r s).0.finals) (jumping_after (apply known r s).1 r) rs (apply known r s).0)
   where
     over : List (Rule × List Text)
     over = reported_from [] known since jumping rs s
@@ -25,9 +27,9 @@ none_reported known since jumping (r ∷ rs) s = by (is_passed (sought_by jumpin
     through : List (Rule × List Text)
     through = reported_from [] known (since_after since r (apply known r s).0.finals) (jumping_after (apply known r s).1 r) rs (apply known r s).0
 
-    by : (b : Bool) → cond b over through ≡ []
-    by true = none_reported known since jumping rs s
-    by false = none_reported known (since_after since r (apply known r s).0.finals) (jumping_after (apply known r s).1 r) rs (apply known r s).0
+    by : (b : Bool) → over ≡ [] → through ≡ [] → cond b over through ≡ []
+    by true passed reached = passed
+    by false passed reached = reached
 
 none_unread : (messages : List Message) (rules : List Rule) → unread [] messages rules ≡ []
 unfolding unread

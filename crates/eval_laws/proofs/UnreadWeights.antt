@@ -115,11 +115,12 @@ module _ (w : Note → ℕ) (c : Rule → ℕ) (light : (r : Rule) (kind : NoteK
   looking_light : (rules : List Rule) → sum_by w (option_to_list (first_looking rules)) ≤ sum_by c rules
   unfolding first_looking
   looking_light [] = omega arith
-  looking_light (r ∷ rs) = by (looked_at r)
+  looking_light (r ∷ rs) = by (looked_at r) (looking_light rs)
     where
-      by : (o : Option Text) → sum_by w (option_to_list (option_or (option_map (note_about r AttributesNotGiven) o) (first_looking rs))) ≤ sum_by c (r ∷ rs)
-      by None = let later = looking_light rs in let all = sum_by-cons c r rs in omega (arith, later, all)
-      by (Some name) =
+      by : (o : Option Text) → sum_by w (option_to_list (first_looking rs)) ≤ sum_by c rs
+          → sum_by w (option_to_list (option_or (option_map (note_about r AttributesNotGiven) o) (first_looking rs))) ≤ sum_by c (r ∷ rs)
+      by None later = let all = sum_by-cons c r rs in omega (arith, later, all)
+      by (Some name) later =
           let a = light r AttributesNotGiven name in
           let b = sum_by-cons w (note_about r AttributesNotGiven name) [] in
           let all = sum_by-cons c r rs in

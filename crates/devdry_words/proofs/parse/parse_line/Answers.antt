@@ -27,12 +27,12 @@ always (Err e) p = tt
 -- help for `explain`
 section : (found : Option Text) (said : Text) (text : String Global) → MatchOption found (IsUsageOf said (Help text)) (λ section. IsHelpWith (λ said. said ≡ section) (Help text)) → found ≡ Some (string_bytes text)
 section None said text h = absurd h
-section (Some section) said text h = ap Some (sym h)
+section (Some its) said text h = ap Some (sym h)
 
 -- usage for `explain`
 unknown : (found : Option Text) (said : Text) (text : String Global) → MatchOption found (IsUsageOf said (Usage text)) (λ section. IsHelpWith (λ said. said ≡ section) (Usage text)) → (found ≡ None) × (string_bytes text ≡ said)
 unknown None said text h = (refl, h)
-unknown (Some section) said text h = absurd h
+unknown (Some its) said text h = absurd h
 
 -- help that `devdry` itself gives, by why the matches are refused
 help_on : (refused : Option Refusal) (A : Type 0) (rows : List Row) (text : String Global) → MatchOption refused (A × Explains (text_of (codes "CODE") rows) (Help text)) (λ r. IsUsageOf (said_of r rows) (Help text))

@@ -29,7 +29,7 @@ pub fn an_attribute_that_is_absent_fails_both_for_udev()
         (codes "C: add\nP: /d\nU: m\nA: b=1")
         ≡ codes "event add /d\nenv ACTION=add\nenv DEVPATH=/d\nenv SUBSYSTEM=m\n\n" }
     ensures none { answered_as_udev
-        (codes "KERNEL==\"d\", ENV{A}=\"1\"\nKERNEL==\"e\", ATTRS{b}==\"1\", ATTR{a}!=\"1\"\nATTR{c}==\"1\"")
+        (codes "KERNEL==\"d\", ENV{A}=\"1\"\nKERNEL==\"e\", ATTRS{b}==\"1\", ATTR{a}!=\"1\", TAG+=\"t\"\nATTR{c}==\"1\", TAG+=\"t\"")
         (codes "C: add\nP: /d\nU: m")
         ≡ codes "event add /d\nenv A=1\nenv ACTION=add\nenv DEVPATH=/d\nenv SUBSYSTEM=m\nnote r.rules:2: attributes not given: a\n\n" }
 {}

@@ -22,6 +22,7 @@ ENVIRONMENT = {"PATH": os.environ["PATH"], "SYSTEMD_COLORS": "0", "SYSTEMD_IGNOR
 def start(root):
     """Mounts what udevadm reads of the machine, without what its udev has stored, and makes the database."""
     for folder in ("sys", "proc", "dev"):
+        (root / folder).mkdir(exist_ok=True)
         subprocess.run(["mount", "--bind", f"/{folder}", str(root / folder)], check=True)
     subprocess.run(["mount", "-t", "tmpfs", "tmpfs", str(root / "run")], check=True)
     for name, text in (("passwd", PASSWD), ("group", GROUP)):

@@ -1,6 +1,6 @@
 -- What an assignment can change: the items of its key, or RUNs. Of lists that are only added to, it is what comes after those
 -- that were there.
-use Rattle.std.specs.Prelude.{ℕ, if◌then◌else◌, List, [], drop, length, codes}
+use Rattle.std.specs.Prelude.{if◌then◌else◌, List, [], drop, length, codes}
 use Rattle.text_bytes.specs.Texts.{is_empty}
 use Rattle.text_bytes.specs.declared.profile.Profile.{Profile}
 use Rattle.text_bytes.specs.declared.profile.Profile.TheVariants.{Manual, Udev}
@@ -19,16 +19,12 @@ use Rattle.eval_assignments.specs.Lists.{without_texts}
 use Rattle.eval_effects.specs.Items.{given_item, item_name, label_items, node_items, pair_items, text_items}
 use Rattle.eval_effects.specs.declared.scope.Fronts.{Fronts}
 
--- how many tags stay where they are if one more is set: all, unless one was removed, which may be set again
-abbrev pub staying_tags : Scene → ℕ
-staying_tags s = if is_empty s.gone then length s.state.tags else 0
-
 -- how many links, tags and RUNs stay as they are, from the first on, when an assignment with this operator is made: all that are
--- there if it only adds
+-- there if it only adds, but no tags if one was removed, which may be set again
 abbrev pub fronts : AssignOperator → Scene → Fronts
 fronts Add s = record {
   links = length s.state.links;
-  tags = staying_tags s;
+  tags = if is_empty s.gone then length s.state.tags else 0;
   runs = length s.runs;
   made = length s.made;
 }

@@ -30,11 +30,7 @@ marked text = if is_quoted text then double_quote ∷ escape_text text ++ double
 unfoldable pub shown : Text → Text
 shown text = if nat_lt most_shown (length text) then marked (take most_shown text) ++ size_note (length text) else marked text
 
--- texts, each after a comma
-abbrev pub after_commas : List Text → Text
-after_commas texts = flat_map (λ text. codes ", " ++ text) texts
-
 -- texts with commas between them
 abbrev pub joined : List Text → Text
 joined [] = []
-joined (text ∷ more) = text ++ after_commas more
+joined (text ∷ more) = text ++ flat_map (λ next. codes ", " ++ next) more

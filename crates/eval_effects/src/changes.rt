@@ -1,9 +1,7 @@
 //! Names that are no longer there, and items that are there only now.
-ghost use Rattle.std.specs.Prelude.{◌≡◌, ◌++◌, IfOk, OnOk, flat_map, is_some, option_map};
-ghost use Rattle.text_tables.specs.Pairs.{value_of};
-ghost use Rattle.eval_effects.specs.Items.{is_present, is_value};
+ghost use Rattle.std.specs.Prelude.{◌≡◌, ◌++◌, IfOk, OnOk, flat_map};
 ghost use Rattle.eval_effects.specs.Inner.{table_of};
-ghost use Rattle.eval_effects.specs.Changes.{item_changes, name_text, removed_item, removed_text, set_item, set_text, value_part};
+ghost use Rattle.eval_effects.specs.Changes.{item_changes, name_text, removed_item, set_item, value_part};
 
 use crate::items::Item;
 use crate::shown::push_shown;
@@ -21,30 +19,6 @@ fn table_of<'i>(alloc: Global, items: &'i [Item]) -> Result<Pairs<'i>, AllocErro
         table.add(item.name(), item.value())?;
     }
     Ok(table)
-}
-
-/// Whether there is a value, and it is this text.
-fn is_value(value: Option<&[u8]>, text: &[u8]) -> bool
-    ensures { result ≡ is_value (option_map (λ v. v.now) value.entry) text.now }
-{
-    match value {
-        Some(value) => value == text,
-        None => false,
-    }
-}
-
-/// Whether an item is among others: its name has its value.
-fn is_present(items: &Pairs<'_>, item: &Item) -> bool
-    ensures { result ≡ is_present item.now items.now }
-{
-    is_value(items.get(item.name()), item.value())
-}
-
-/// Whether a name has a value.
-fn is_named(items: &Pairs<'_>, name: &[u8]) -> bool
-    ensures { result ≡ is_some (value_of items.now name.now) }
-{
-    items.get(name).is_some()
 }
 
 /// Appends what becomes of an item that takes a value.
@@ -71,26 +45,6 @@ fn push_name(alloc: Global, text: &mut Vec<u8>, name: &[u8]) -> Result<(), Alloc
     push_shown(alloc, text, about)
 }
 
-/// The text of an item that is set.
-fn set_text(alloc: Global, item: &Item) -> Result<Bytes, AllocError>
-    ensures { IfOk result (λ text. text ≡ set_text item.now) }
-{
-    let mut text = Vec::new(alloc);
-    push_name(alloc, &mut text, item.name())?;
-    push_value(alloc, &mut text, item.value())?;
-    Ok(Bytes::new(text))
-}
-
-/// The text of an item whose name is no longer there.
-fn removed_text(alloc: Global, name: &[u8]) -> Result<Bytes, AllocError>
-    ensures { IfOk result (λ text. text ≡ removed_text name.now) }
-{
-    let mut text = Vec::new(alloc);
-    push_name(alloc, &mut text, name)?;
-    text.extend_from_slice(b" removed")?;
-    Ok(Bytes::new(text))
-}
-
 /// Adds the text of an item, unless it was there like this before.
 fn push_set(
     alloc: Global,
@@ -100,9 +54,15 @@ fn push_set(
 ) -> Result<(), AllocError>
     ensures { OnOk result (reported.new.items ≡ reported.old.items ++ set_item was.now item.now) }
 {
-    if !is_present(was, item) {
-        reported.push(set_text(alloc, item)?)?;
+    if let Some(value) = was.get(item.name()) {
+        if value == item.value() {
+            return Ok(());
+        }
     }
+    let mut text = Vec::new(alloc);
+    push_name(alloc, &mut text, item.name())?;
+    push_value(alloc, &mut text, item.value())?;
+    reported.push(Bytes::new(text))?;
     Ok(())
 }
 
@@ -115,8 +75,11 @@ fn push_removed(
 ) -> Result<(), AllocError>
     ensures { OnOk result (reported.new.items ≡ reported.old.items ++ removed_item now.now item.now) }
 {
-    if !is_named(now, item.name()) {
-        reported.push(removed_text(alloc, item.name())?)?;
+    if now.get(item.name()).is_none() {
+        let mut text = Vec::new(alloc);
+        push_name(alloc, &mut text, item.name())?;
+        text.extend_from_slice(b" removed")?;
+        reported.push(Bytes::new(text))?;
     }
     Ok(())
 }

@@ -1,19 +1,12 @@
 //! The assignments of a rule, each reported as it is made.
-ghost use Rattle.std.specs.Prelude.{◌≡◌, ◌++◌, ◌∷◌, [], codes, IfOk, OnOk, OnErr, fold, option_map, slice_get};
+ghost use Rattle.std.specs.Prelude.{◌≡◌, ◌++◌, IfOk, OnOk, OnErr, fold, option_map, unwrap_or};
 ghost use Rattle.eval_state.specs.Scenes.{blank};
-ghost use Rattle.text_tables.specs.Texts.{AreOnce};
-ghost use Rattle.text_tables.specs.Pairs.{names};
 ghost use Rattle.eval_assignments.specs.Steps.{set_step};
-ghost use Rattle.eval_effects.specs.Changes.{changes};
 ghost use Rattle.eval_effects.specs.Named.{change_key};
-ghost use Rattle.eval_effects.specs.Effects.{changed_text, effect, effects, ending, ending_of, final_text, no_name, said_left, said_of, settled_key};
+ghost use Rattle.eval_effects.specs.Effects.{effect, ending, final_text, no_name, said_left, said_of, settled_key};
 ghost use Rattle.eval_effects.specs.Narrow.{found_text};
-ghost use Rattle.eval_effects.specs.Shown.{shown};
 
-use crate::changes::push_item_changes;
-use crate::made::push_made_changes;
-use crate::named::{final_name, push_change_key, push_rule};
-use crate::runs::push_run_changes;
+use crate::named::{final_name, push_key, push_rule};
 use crate::scope::{Fronts, written_by};
 use crate::shown::{push_joined, push_shown};
 use crate::since::Since;
@@ -34,32 +27,20 @@ fn settled_key(finals: Finals, key: Option<FinalKey>) -> Option<FinalKey>
     }
 }
 
-/// The text of an assignment to a key that has been final since a rule.
-fn final_text(alloc: Global, key: FinalKey, rule: &Rule) -> Result<Bytes, AllocError>
-    ensures { IfOk result (λ text. text ≡ final_text key rule.now) }
+/// The text of an assignment to a key that has been final since a rule: an earlier one, or the rule
+/// of the assignment.
+fn final_text(
+    alloc: Global,
+    key: FinalKey,
+    since: &Since<'_>,
+    rule: &Rule,
+) -> Result<Bytes, AllocError>
+    ensures { IfOk result (λ text. text ≡ final_text key (unwrap_or (since.now key) rule.now)) }
 {
     let mut text = Vec::from_slice(alloc, final_name(key))?;
     text.extend_from_slice(b" is final since ")?;
-    push_rule(alloc, &mut text, rule)?;
+    push_rule(alloc, &mut text, since.rule_of(key).unwrap_or(rule))?;
     Ok(Bytes::new(text))
-}
-
-/// The note after so many, if there is one.
-fn note_after<'s>(count: usize, scene: &'s Scene<'_>) -> Option<&'s Note>
-    ensures { option_map (λ note. note.now) result ≡ slice_get scene.now.notes count }
-{
-    scene.notes.as_slice().get(count)
-}
-
-/// All that changed, by what was there and what is there now.
-fn changes(alloc: Global, was: &Snapshot<'_>, now: &Snapshot<'_>) -> Result<Vec<Bytes>, AllocError>
-    ensures { IfOk result (λ reported. reported.items ≡ changes was.now now.now) }
-{
-    let mut reported = Vec::new(alloc);
-    push_item_changes(alloc, &mut reported, was.items(), now.items())?;
-    push_run_changes(alloc, &mut reported, was.runs(), now.runs())?;
-    push_made_changes(alloc, &mut reported, was.made(), now.made())?;
-    Ok(reported)
 }
 
 /// The key of an assignment, and what is said about it.
@@ -67,30 +48,8 @@ fn key_with(alloc: Global, change: &Change, said: &[u8]) -> Result<Bytes, AllocE
     ensures { IfOk result (λ text. text ≡ change_key change.now ++ said.now) }
 {
     let mut text = Vec::new(alloc);
-    push_change_key(alloc, &mut text, change)?;
+    push_key(alloc, &mut text, change.key(), change.attribute())?;
     text.extend_from_slice(said)?;
-    Ok(Bytes::new(text))
-}
-
-/// What an assignment changed, if anything.
-fn changed_text(alloc: Global, change: &Change, changes: &[Bytes]) -> Result<Bytes, AllocError>
-    ensures { IfOk result (λ text. text ≡ changed_text change.now changes.now) }
-{
-    if changes.is_empty() {
-        return key_with(alloc, change, b" changes nothing");
-    }
-    let mut text = Vec::new(alloc);
-    push_joined(&mut text, changes)?;
-    Ok(Bytes::new(text))
-}
-
-/// The text of a link that was refused.
-fn link_report(alloc: Global, link: &[u8]) -> Result<Bytes, AllocError>
-    ensures { IfOk result (λ text. text ≡ shown link.now ++ codes " ignored, no link") }
-{
-    let mut text = Vec::new(alloc);
-    push_shown(alloc, &mut text, link)?;
-    text.extend_from_slice(b" ignored, no link")?;
     Ok(Bytes::new(text))
 }
 
@@ -105,28 +64,6 @@ fn no_name(subsystem: Option<&[u8]>) -> &'static [u8]
     }
 }
 
-/// The text of a NAME that was ignored.
-fn name_report(alloc: Global, scene: &Scene<'_>) -> Result<Bytes, AllocError>
-    ensures { IfOk result (λ text. text ≡ codes "NAME ignored, " ++ no_name scene.now.state.event.device.subsystem) }
-{
-    let mut text = Vec::from_slice(alloc, b"NAME ignored, ")?;
-    text.extend_from_slice(no_name(scene.state.event.device().subsystem()))?;
-    Ok(Bytes::new(text))
-}
-
-/// Adds a text of the key of an assignment and what is said about it.
-fn push_with_key(
-    alloc: Global,
-    reported: &mut Vec<Bytes>,
-    change: &Change,
-    said: &[u8],
-) -> Result<(), AllocError>
-    ensures { OnOk result (reported.new.items ≡ reported.old.items ++ (change_key change.now ++ said.now) ∷ []) }
-{
-    reported.push(key_with(alloc, change, said)?)?;
-    Ok(())
-}
-
 /// Adds the text of a note of an assignment over a scene.
 fn push_said(
     alloc: Global,
@@ -139,26 +76,30 @@ fn push_said(
     ensures { OnOk result (reported.new.items ≡ reported.old.items ++ said_of change.now scene.now kind word.now) }
 {
     match kind {
-        NoteKind::TextTooLong => push_with_key(alloc, reported, change, b" left out, too long"),
+        NoteKind::TextTooLong => reported.push(key_with(alloc, change, b" left out, too long")?)?,
         NoteKind::NameIgnored => {
-            reported.push(name_report(alloc, scene)?)?;
-            Ok(())
+            let mut text = Vec::from_slice(alloc, b"NAME ignored, ")?;
+            text.extend_from_slice(no_name(scene.state.event.device().subsystem()))?;
+            reported.push(Bytes::new(text))?;
         }
         NoteKind::NoDeviceNumber => {
-            push_with_key(alloc, reported, change, b" ignored, no device number")
+            reported.push(key_with(alloc, change, b" ignored, no device number")?)?;
         }
-        NoteKind::NoValue => push_with_key(alloc, reported, change, b" ignored, no value"),
+        NoteKind::NoValue => reported.push(key_with(alloc, change, b" ignored, no value")?)?,
         NoteKind::LinkIgnored => {
-            reported.push(link_report(alloc, word)?)?;
-            Ok(())
+            let mut text = Vec::new(alloc);
+            push_shown(alloc, &mut text, word)?;
+            text.extend_from_slice(b" ignored, no link")?;
+            reported.push(Bytes::new(text))?;
         }
-        NoteKind::ModeIgnored => push_with_key(alloc, reported, change, b" ignored, no mode"),
-        NoteKind::TagIgnored => push_with_key(alloc, reported, change, b" ignored, no tag"),
+        NoteKind::ModeIgnored => reported.push(key_with(alloc, change, b" ignored, no mode")?)?,
+        NoteKind::TagIgnored => reported.push(key_with(alloc, change, b" ignored, no tag")?)?,
         NoteKind::AttributeNotFound => {
-            push_with_key(alloc, reported, change, b" ignored, no such attribute")
+            reported.push(key_with(alloc, change, b" ignored, no such attribute")?)?;
         }
-        _ => Ok(()),
+        _ => {}
     }
+    Ok(())
 }
 
 /// Adds the text of the note of an assignment, if it left one.
@@ -197,19 +138,14 @@ fn made_text(
     ensures { IfOk result (λ text. text ≡ found_text written.now change.now fronts was.now scene.now) }
 {
     let now = Snapshot::of(alloc, change, written, fronts, scene)?;
-    let mut reported = changes(alloc, was, &now)?;
-    let left = note_after(was.notes(), scene);
-    push_left(alloc, &mut reported, change, scene, left)?;
-    changed_text(alloc, change, &reported)
-}
-
-/// No attribute and no parameter is there twice.
-fn names_are_once(scene: &Scene<'_>)
-    ensures attrs { AreOnce (names scene.now.attrs) }
-    ensures sysctls { AreOnce (names scene.now.sysctls) }
-{
-    let _attrs = scene.attrs.len();
-    let _sysctls = scene.sysctls.len();
+    let mut reported = was.changes(alloc, &now)?;
+    push_left(alloc, &mut reported, change, scene, was.note_since(scene))?;
+    if reported.is_empty() {
+        return key_with(alloc, change, b" changes nothing");
+    }
+    let mut text = Vec::new(alloc);
+    push_joined(&mut text, &reported)?;
+    Ok(Bytes::new(text))
 }
 
 /// Makes an assignment, and returns a text of what it did.
@@ -229,45 +165,16 @@ fn set_and_report<'a>(
     let settled = settled_key(scene.finals, final_key(profile, &assignment.change));
     let change = &assignment.change;
     let fronts = Fronts::of(assignment.operator, scene);
-    names_are_once(scene);
+    // These lengths are for the proof: they say that no attribute and no parameter is there twice.
+    let _attrs = scene.attrs.len();
+    let _sysctls = scene.sysctls.len();
     let written = written_by(alloc, change, &scene.state)?;
     let was = Snapshot::of(alloc, change, &written, fronts, scene)?;
     set_one(alloc, rule, assignment, scene)?;
     match settled {
-        Some(key) => final_text(alloc, key, since.rule_or(key, rule)),
+        Some(key) => final_text(alloc, key, since, rule),
         None => made_text(alloc, change, &written, fronts, &was, scene),
     }
-}
-
-/// Makes the assignments of a rule, one after another, and returns a text of what each did.
-fn set_all_and_report<'a>(
-    alloc: Global,
-    rule: &'a Rule,
-    since: &Since<'a>,
-    scene: &mut Scene<'a>,
-) -> Result<Vec<Bytes>, AllocError>
-    ensures scene { OnOk result (scene.new ≡ fold (set_step rule.now) scene.old rule.now.sets) }
-    ensures reported { IfOk result (λ reported. reported.items ≡ effects since.now rule.now scene.old rule.now.sets) }
-    ensures event { scene.new.state.event ≡ scene.old.state.event }
-{
-    let mut reported = Vec::new(alloc);
-    for assignment in &rule.sets {
-        let text = set_and_report(alloc, rule, since, assignment, scene)?;
-        reported.push(text)?;
-    }
-    Ok(reported)
-}
-
-/// The text of a rule whose end is reached, by what its assignments did.
-fn ending_of(alloc: Global, reported: &[Bytes]) -> Result<Bytes, AllocError>
-    ensures { IfOk result (λ text. text ≡ ending_of reported.now) }
-{
-    let mut text = Vec::from_slice(alloc, b"reached its end")?;
-    if !reported.is_empty() {
-        text.extend_from_slice(b": ")?;
-        push_joined(&mut text, reported)?;
-    }
-    Ok(Bytes::new(text))
 }
 
 /// The end of a rule; on failure its scene may be left half done.
@@ -282,8 +189,16 @@ fn end_open<'a>(
     ensures text { IfOk result (λ text. text ≡ ending since.now rule.now scene.old) }
     ensures event { scene.new.state.event ≡ scene.old.state.event }
 {
-    let reported = set_all_and_report(alloc, rule, since, scene)?;
-    ending_of(alloc, &reported)
+    let mut reported = Vec::new(alloc);
+    for assignment in &rule.sets {
+        reported.push(set_and_report(alloc, rule, since, assignment, scene)?)?;
+    }
+    let mut text = Vec::from_slice(alloc, b"reached its end")?;
+    if !reported.is_empty() {
+        text.extend_from_slice(b": ")?;
+        push_joined(&mut text, &reported)?;
+    }
+    Ok(Bytes::new(text))
 }
 
 /// Makes the assignments of a rule whose end is reached, as `set_all` does, and returns a text of what each of them

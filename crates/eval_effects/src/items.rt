@@ -1,6 +1,5 @@
 //! What is in a scene, as items.
-ghost use Rattle.std.specs.Prelude.{◌≡◌, ◌++◌, ◌∷◌, [], codes, drop, flat_map, map, option_map, IfOk, OnOk};
-ghost use Rattle.text_bytes.specs.Names.{equals};
+ghost use Rattle.std.specs.Prelude.{◌≡◌, ◌++◌, ◌∷◌, [], codes, drop, flat_map, map, IfOk, OnOk};
 ghost use Rattle.eval_state.specs.Texts.{filled};
 ghost use Rattle.eval_assignments.specs.Lists.{without_texts};
 ghost use Rattle.eval_effects.specs.Inner.{tag_item};
@@ -65,7 +64,7 @@ pub fn item_name(alloc: Global, word: &[u8], about: &[u8]) -> Result<Bytes, Allo
 }
 
 /// Adds an item.
-fn push_item(
+pub(crate) fn push_item(
     alloc: Global,
     items: &mut Vec<Item>,
     name: Bytes,
@@ -101,22 +100,6 @@ fn push_given(
 {
     match text {
         Some(text) => push_word(alloc, items, word, text.as_slice()),
-        None => Ok(()),
-    }
-}
-
-/// Adds what has a name as an item, if it is there.
-pub(crate) fn push_named(
-    alloc: Global,
-    items: &mut Vec<Item>,
-    word: &[u8],
-    name: &[u8],
-    value: Option<&[u8]>,
-) -> Result<(), AllocError>
-    ensures { OnOk result (items.new.items ≡ items.old.items ++ given_item (item_name word.now name.now) (option_map (λ v. v.now) value.entry)) }
-{
-    match value {
-        Some(value) => push_item(alloc, items, item_name(alloc, word, name)?, value),
         None => Ok(()),
     }
 }
@@ -220,16 +203,6 @@ fn push_pairs(
     Ok(())
 }
 
-/// The label of a module with its module, `MODULE=TEXT`.
-fn label_text(alloc: Global, label: &Label) -> Result<Bytes, AllocError>
-    ensures { IfOk result (λ text. text ≡ label.now.0 ++ equals ∷ label.now.1) }
-{
-    let mut text = Vec::from_slice(alloc, label.name())?;
-    text.push(b'=')?;
-    text.extend_from_slice(label.text())?;
-    Ok(Bytes::new(text))
-}
-
 /// The label of a module as an item: by the manual its module has no other one, for udev the label itself is a part
 /// of the name.
 pub fn label_item(alloc: Global, profile: Profile, label: &Label) -> Result<Item, AllocError>
@@ -241,9 +214,11 @@ pub fn label_item(alloc: Global, profile: Profile, label: &Label) -> Result<Item
             value: Bytes::copy_of(alloc, label.text())?,
         }),
         Profile::Udev => {
-            let text = label_text(alloc, label)?;
+            let mut text = Vec::from_slice(alloc, label.name())?;
+            text.push(b'=')?;
+            text.extend_from_slice(label.text())?;
             Ok(Item {
-                name: item_name(alloc, b"label", text.as_slice())?,
+                name: item_name(alloc, b"label", &text)?,
                 value: Bytes::copy_of(alloc, b"")?,
             })
         }

@@ -1,8 +1,8 @@
 //! RUNs that udev made at their rules: those that are no longer there, and those that came.
 ghost use Rattle.std.specs.Prelude.{◌≡◌, ◌≤◌, ◌++◌, length, map, OnOk};
-ghost use Rattle.eval_effects.specs.Changes.{made_changes, made_run, removed_made, same_made, stayed};
+ghost use Rattle.eval_effects.specs.Changes.{made_changes, made_run, same_made, stayed};
 
-use crate::runs::{push_none_left, run_report};
+use crate::runs::run_report;
 use eval_state::MadeRun;
 use std::alloc::{AllocError, Global};
 use text_bytes::Bytes;
@@ -41,30 +41,8 @@ fn push_each(
     Ok(())
 }
 
-/// Adds the texts of the RUNs that are no longer there: one by one, unless none is there now.
-fn push_removed(
-    alloc: Global,
-    reported: &mut Vec<Bytes>,
-    was: &[MadeRun<'_>],
-    now: &[MadeRun<'_>],
-) -> Result<(), AllocError>
-    ensures { OnOk result (reported.new.items ≡ reported.old.items ++ removed_made was.now now.now) }
-{
-    if !now.is_empty() {
-        return push_each(
-            alloc,
-            reported,
-            b" removed",
-            was.split_at(stayed(was, now)).1,
-        );
-    }
-    if was.is_empty() {
-        return Ok(());
-    }
-    push_none_left(alloc, reported)
-}
-
-/// Adds the texts of what changed in RUNs that udev made, first those that are no longer there.
+/// Adds the texts of what changed in RUNs that udev made, first those that are no longer there: one
+/// by one, unless none is there now.
 pub(crate) fn push_made_changes(
     alloc: Global,
     reported: &mut Vec<Bytes>,
@@ -73,6 +51,13 @@ pub(crate) fn push_made_changes(
 ) -> Result<(), AllocError>
     ensures { OnOk result (reported.new.items ≡ reported.old.items ++ made_changes was.now now.now) }
 {
-    push_removed(alloc, reported, was, now)?;
-    push_each(alloc, reported, b" added", now.split_at(stayed(was, now)).1)
+    if now.is_empty() {
+        if !was.is_empty() {
+            reported.push(Bytes::copy_of(alloc, b"all runs removed")?)?;
+        }
+        return Ok(());
+    }
+    let count = stayed(was, now);
+    push_each(alloc, reported, b" removed", was.split_at(count).1)?;
+    push_each(alloc, reported, b" added", now.split_at(count).1)
 }

@@ -1,10 +1,10 @@
 //! How the lines of `--why` name keys and rules.
 ghost use Rattle.std.specs.Prelude.{◌≡◌, ◌++◌, OnOk, option_map};
-ghost use Rattle.eval_effects.specs.Named.{change_key, final_name, key_text, rule_place};
+ghost use Rattle.eval_effects.specs.Named.{final_name, key_text, rule_place};
 
 use eval_state::FinalKey;
 use itoa::Buffer;
-use rule_types::{Change, Key, Rule};
+use rule_types::{Key, Rule};
 use std::alloc::{AllocError, Global};
 use text_bytes::escape;
 
@@ -24,17 +24,6 @@ pub fn push_key(
         text.push(b'}')?;
     }
     Ok(())
-}
-
-/// Appends the key of an assignment.
-pub(crate) fn push_change_key(
-    alloc: Global,
-    text: &mut Vec<u8>,
-    change: &Change,
-) -> Result<(), AllocError>
-    ensures { OnOk result (text.new.items ≡ text.old.items ++ change_key change.now) }
-{
-    push_key(alloc, text, change.key(), change.attribute())
 }
 
 /// The name of a key that no longer changes.

@@ -2,11 +2,11 @@
 //!
 //! An assignment changes the items of its key, or RUNs, and one that only adds to a list leaves its beginning as it is. So
 //! what it did costs what it can have changed, and not what the scene holds.
-ghost use Rattle.std.specs.Prelude.{◌≡◌, ◌++◌, drop, IfOk, OnOk};
+ghost use Rattle.std.specs.Prelude.{◌≡◌, ◌++◌, drop, IfOk, OnOk, option_map};
 ghost use Rattle.eval_effects.specs.Scope as scope;
 ghost use Rattle.eval_effects.specs.Narrow.{found_about, found_by_text, written_by, written_item};
 
-use crate::items::{Item, push_labels, push_links, push_named, push_node, push_tags};
+use crate::items::{Item, item_name, push_item, push_labels, push_links, push_node, push_tags};
 use eval_assignments::written_name;
 use eval_state::{MadeRun, Run, Scene, State};
 use rule_types::{AssignOperator, Change, Target};
@@ -23,26 +23,20 @@ pub(crate) struct Fronts {
     made: usize,
 }
 
-/// How many tags stay if one more is set: all, unless one was removed that may be set again.
-fn staying_tags(scene: &Scene<'_>) -> usize
-    ensures { result ≡ scope.staying_tags scene.now }
-{
-    if scene.gone.as_slice().is_empty() {
-        scene.state.tags.as_slice().len()
-    } else {
-        0
-    }
-}
-
 impl Fronts {
-    /// Those that an assignment with an operator leaves.
+    /// Those that an assignment with an operator leaves; if a tag was removed, which may be set
+    /// again, no tags.
     pub(crate) fn of(operator: AssignOperator, scene: &Scene<'_>) -> Fronts
         ensures { result ≡ scope.fronts operator scene.now }
     {
         match operator {
             AssignOperator::Add => Fronts {
                 links: scene.state.links.as_slice().len(),
-                tags: staying_tags(scene),
+                tags: if scene.gone.as_slice().is_empty() {
+                    scene.state.tags.as_slice().len()
+                } else {
+                    0
+                },
                 runs: scene.runs.as_slice().len(),
                 made: scene.made.as_slice().len(),
             },
@@ -70,21 +64,26 @@ pub(crate) fn written_by(
     }
 }
 
-/// Adds the item of what is written, if something is.
+/// Adds the item of what is written, if something is and it is there.
 fn push_written(
     alloc: Global,
     items: &mut Vec<Item>,
     word: &[u8],
-    written: &Option<Bytes>,
+    written: Option<&Bytes>,
     pairs: &CowPairs<'_>,
 ) -> Result<(), AllocError>
-    ensures { OnOk result (items.new.items ≡ items.old.items ++ written_item word.now written.now pairs.now) }
+    ensures { OnOk result (items.new.items ≡ items.old.items ++ written_item word.now (option_map (λ n. n.now) written.entry) pairs.now) }
 {
-    match written {
-        Some(name) => {
-            let name = name.as_slice();
-            push_named(alloc, items, word, name, pairs.get(name))
-        }
+    let Some(name) = written else {
+        return Ok(());
+    };
+    match pairs.get(name.as_slice()) {
+        Some(value) => push_item(
+            alloc,
+            items,
+            item_name(alloc, word, name.as_slice())?,
+            value,
+        ),
         None => Ok(()),
     }
 }
@@ -102,12 +101,11 @@ fn push_by_text(
 {
     let profile = scene.state.event.event().profile();
     match target {
-        Target::Env(name) => {
-            let name = name.as_slice();
-            push_named(alloc, items, b"env", name, scene.state.env.get(name))
+        Target::Env(name) => push_written(alloc, items, b"env", Some(name), &scene.state.env),
+        Target::Attr(_) => push_written(alloc, items, b"attr", written.as_ref(), &scene.attrs),
+        Target::Sysctl(_) => {
+            push_written(alloc, items, b"sysctl", written.as_ref(), &scene.sysctls)
         }
-        Target::Attr(_) => push_written(alloc, items, b"attr", written, &scene.attrs),
-        Target::Sysctl(_) => push_written(alloc, items, b"sysctl", written, &scene.sysctls),
         Target::Seclabel(_) => push_labels(alloc, items, profile, scene.labels.as_slice()),
         Target::Symlink => push_links(alloc, items, scene, fronts.links),
         Target::Tag => push_tags(alloc, items, scene, fronts.tags),
@@ -136,18 +134,11 @@ pub(crate) fn items_about(
     Ok(found)
 }
 
-/// RUNs after so many.
-fn runs_after<'r, 'a>(runs: &'r [Run<'a>], count: usize) -> &'r [Run<'a>]
-    ensures { result.now ≡ drop count runs.now }
+/// What follows the first `count` of some items.
+fn after<T>(items: &[T], count: usize) -> &[T]
+    ensures { result.now ≡ drop count items.now }
 {
-    runs.split_at(count.min(runs.len())).1
-}
-
-/// RUNs that udev made after so many.
-fn made_after<'r, 'a>(made: &'r [MadeRun<'a>], count: usize) -> &'r [MadeRun<'a>]
-    ensures { result.now ≡ drop count made.now }
-{
-    made.split_at(count.min(made.len())).1
+    items.split_at(count.min(items.len())).1
 }
 
 /// The RUNs that an assignment can change.
@@ -159,7 +150,7 @@ pub(crate) fn runs_about<'s, 'a>(
     ensures { result.now ≡ scope.runs_about change.now fronts scene.now }
 {
     match change {
-        Change::Run(_, _) => runs_after(scene.runs.as_slice(), fronts.runs),
+        Change::Run(_, _) => after(scene.runs.as_slice(), fronts.runs),
         _ => &[],
     }
 }
@@ -173,7 +164,7 @@ pub(crate) fn made_about<'s, 'a>(
     ensures { result.now ≡ scope.made_about change.now fronts scene.now }
 {
     match change {
-        Change::Run(_, _) => made_after(scene.made.as_slice(), fronts.made),
+        Change::Run(_, _) => after(scene.made.as_slice(), fronts.made),
         _ => &[],
     }
 }

@@ -1,7 +1,7 @@
 //! Texts as the lines of `--why` show them, and several of them in one line.
-ghost use Rattle.std.specs.Prelude.{◌≡◌, ◌++◌, ◌≤◌, length, take, OnOk};
+ghost use Rattle.std.specs.Prelude.{◌≡◌, ◌++◌, length, OnOk};
 ghost use Rattle.text_bytes.specs.Escapes.{escape_text};
-ghost use Rattle.eval_effects.specs.Shown.{after_commas, is_quoted, joined, marked, shortened, shown, size_note};
+ghost use Rattle.eval_effects.specs.Shown.{is_quoted, joined, marked, shortened, shown, size_note};
 
 use itoa::Buffer;
 use std::alloc::{AllocError, Global};
@@ -9,14 +9,6 @@ use text_bytes::{Bytes, begins_with, ends_in, escape};
 
 /// The most bytes of a text that are shown.
 const MAX_SHOWN: usize = 200;
-
-/// The start of a long text that is shown.
-fn start_of(about: &[u8]) -> &[u8]
-    requires { MAX_SHOWN ≤ length about.now }
-    ensures { result.now ≡ take MAX_SHOWN about.now }
-{
-    about.split_at(MAX_SHOWN).0
-}
 
 /// Appends how many bytes a text has of which the start was shown.
 #[tactic(auto, unfolding(crate::specs::Shown::size_note))]
@@ -41,7 +33,7 @@ pub fn push_shortened(alloc: Global, text: &mut Vec<u8>, about: &[u8]) -> Result
     ensures { OnOk result (text.new.items ≡ text.old.items ++ shortened about.now) }
 {
     if about.len() > MAX_SHOWN {
-        push_escaped(alloc, text, start_of(about))?;
+        push_escaped(alloc, text, about.split_at(MAX_SHOWN).0)?;
         push_size(text, about)
     } else {
         push_escaped(alloc, text, about)
@@ -77,22 +69,11 @@ pub fn push_shown(alloc: Global, text: &mut Vec<u8>, about: &[u8]) -> Result<(),
     ensures { OnOk result (text.new.items ≡ text.old.items ++ shown about.now) }
 {
     if about.len() > MAX_SHOWN {
-        push_marked(alloc, text, start_of(about))?;
+        push_marked(alloc, text, about.split_at(MAX_SHOWN).0)?;
         push_size(text, about)
     } else {
         push_marked(alloc, text, about)
     }
-}
-
-/// Appends texts, each after a comma.
-fn push_after_commas(text: &mut Vec<u8>, more: &[Bytes]) -> Result<(), AllocError>
-    ensures { OnOk result (text.new.items ≡ text.old.items ++ after_commas more.now) }
-{
-    for next in more {
-        text.extend_from_slice(b", ")?;
-        text.extend_from_slice(next.as_slice())?;
-    }
-    Ok(())
 }
 
 /// Appends texts, with commas between them.
@@ -103,5 +84,9 @@ pub fn push_joined(text: &mut Vec<u8>, texts: &[Bytes]) -> Result<(), AllocError
         return Ok(());
     };
     text.extend_from_slice(first.as_slice())?;
-    push_after_commas(text, more)
+    for next in more {
+        text.extend_from_slice(b", ")?;
+        text.extend_from_slice(next.as_slice())?;
+    }
+    Ok(())
 }

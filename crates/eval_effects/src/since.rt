@@ -1,7 +1,7 @@
 //! The rule since which each key has been final.
 ghost use Rattle.std.specs.Bool.{then_some};
 ghost use Rattle.std.specs.Option.{option_or};
-ghost use Rattle.std.specs.Prelude.{◌≡◌, option_map, unwrap_or};
+ghost use Rattle.std.specs.Prelude.{◌≡◌, option_map};
 ghost use Rattle.eval_effects.specs.Since.{no_since, since_after};
 
 use eval_state::{FinalKey, Finals};
@@ -99,16 +99,6 @@ impl<'a> Since<'a> {
             FinalKey::Run => self.run,
             FinalKey::Priority => self.priority,
             FinalKey::Watch => self.watch,
-        }
-    }
-
-    /// The rule since which a key is final, else another one.
-    pub(crate) fn rule_or(&self, key: FinalKey, otherwise: &'a Rule) -> &'a Rule
-        ensures { result.now ≡ unwrap_or (self.now key) otherwise.now }
-    {
-        match self.rule_of(key) {
-            Some(rule) => rule,
-            None => otherwise,
         }
     }
 }

@@ -1,10 +1,14 @@
 //! What is looked at in a scene, to compare it with another one.
-ghost use Rattle.std.specs.Prelude.{◌≡◌, IfOk};
+ghost use Rattle.std.specs.Prelude.{◌≡◌, IfOk, option_map, slice_get};
+ghost use Rattle.eval_effects.specs.Changes.{changes};
 ghost use Rattle.eval_effects.specs.Narrow.{found_snapshot};
 
+use crate::changes::push_item_changes;
 use crate::items::Item;
+use crate::made::push_made_changes;
+use crate::runs::push_run_changes;
 use crate::scope::{Fronts, items_about, made_about, runs_about};
-use eval_state::{MadeRun, Run, Scene};
+use eval_state::{MadeRun, Note, Run, Scene};
 use rule_types::Change;
 use std::alloc::{AllocError, Global};
 use std::marker::Model;
@@ -45,23 +49,16 @@ fn copied<'a>(alloc: Global, runs: &[Run<'a>]) -> Result<Vec<Run<'a>>, AllocErro
     Ok(copy)
 }
 
-/// A copy of a RUN that udev made, with its command.
-fn copy_of_made<'a>(alloc: Global, made: &MadeRun<'a>) -> Result<MadeRun<'a>, AllocError>
-    ensures { IfOk result (λ copy. copy ≡ made.now) }
-{
-    Ok(MadeRun {
-        run: copy_of(&made.run),
-        text: Bytes::copy_of(alloc, made.text.as_slice())?,
-    })
-}
-
 /// Copies RUNs that udev made.
 fn copied_made<'a>(alloc: Global, made: &[MadeRun<'a>]) -> Result<Vec<MadeRun<'a>>, AllocError>
     ensures { IfOk result (λ copy. copy.items ≡ made.now) }
 {
     let mut copy = Vec::with_capacity(alloc, made.len())?;
     for one in made {
-        copy.push(copy_of_made(alloc, one)?)?;
+        copy.push(MadeRun {
+            run: copy_of(&one.run),
+            text: Bytes::copy_of(alloc, one.text.as_slice())?,
+        })?;
     }
     Ok(copy)
 }
@@ -86,31 +83,25 @@ impl<'a> Snapshot<'a> {
         })
     }
 
-    /// Returns the items.
-    pub(crate) fn items(&self) -> &[Item]
-        ensures { result.now ≡ self.now.items }
+    /// All that changed since, by what is there now.
+    pub(crate) fn changes(
+        &self,
+        alloc: Global,
+        now: &Snapshot<'_>,
+    ) -> Result<Vec<Bytes>, AllocError>
+        ensures { IfOk result (λ reported. reported.items ≡ changes self.now now.now) }
     {
-        &self.items
+        let mut reported = Vec::new(alloc);
+        push_item_changes(alloc, &mut reported, &self.items, &now.items)?;
+        push_run_changes(alloc, &mut reported, &self.runs, &now.runs)?;
+        push_made_changes(alloc, &mut reported, &self.made, &now.made)?;
+        Ok(reported)
     }
 
-    /// Returns the RUNs.
-    pub(crate) fn runs(&self) -> &[Run<'a>]
-        ensures { result.now ≡ self.now.runs }
+    /// The first note of a scene that came since, if there is one.
+    pub(crate) fn note_since<'s>(&self, scene: &'s Scene<'_>) -> Option<&'s Note>
+        ensures { option_map (λ note. note.now) result ≡ slice_get scene.now.notes self.now.notes }
     {
-        &self.runs
-    }
-
-    /// Returns the RUNs that udev made at their rules.
-    pub(crate) fn made(&self) -> &[MadeRun<'a>]
-        ensures { result.now ≡ self.now.made }
-    {
-        &self.made
-    }
-
-    /// How many notes there are.
-    pub(crate) fn notes(&self) -> usize
-        ensures { result ≡ self.now.notes }
-    {
-        self.notes
+        scene.notes.as_slice().get(self.notes)
     }
 }

@@ -14,6 +14,6 @@ returns-clause-event c = ap (λ (s : Scene). s.state.event) c.in_ok-set_one.ensu
 pub returns-clause-text : goal.returns-clause-text
 returns-clause-text c =
     subst (λ (text : Text). IfOk c.made_text.result (λ given. given ≡ text))
-    (effect_told c.args.since.now c.args.rule.now c.args.scene.now c.set_one.new.scene c.args.assignment.now c.in_ok-written.written c.of-fronts.result c.in_ok-was.was' c.names_are_once.ensures.attrs c.names_are_once.ensures.sysctls
+    (effect_told c.args.since.now c.args.rule.now c.args.scene.now c.set_one.new.scene c.args.assignment.now c.in_ok-written.written c.of-fronts.result c.in_ok-was.was' c.len-attrs.ensures.once c.len-sysctls.ensures.once
     (search rules) c.in_ok-written.ensures c.of-fronts.ensures c.in_ok-was.ensures c.in_ok-set_one.ensures.scene)
     c.made_text.ensures

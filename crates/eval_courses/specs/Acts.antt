@@ -24,7 +24,6 @@ use Rattle.eval_state.specs.declared.scene.Scene.{Scene}
 use Rattle.eval_state.specs.declared.state.State.{State}
 use Rattle.eval_acts.specs.ActTexts.{import_text, names_text, program_text, test_text}
 use Rattle.eval_acts.specs.Acts.{act_step}
-use Rattle.eval_acts.specs.Stored.{is_stored_known}
 use Rattle.eval_effects.specs.Items.{is_present}
 use Rattle.eval_effects.specs.Shown.{joined, shown}
 use Rattle.eval_courses.specs.Keys.{act_key}
@@ -34,10 +33,6 @@ use Rattle.eval_courses.specs.Looks.{met}
 abbrev pub on_rendered : (Text → Text) → Rendered → Text
 on_rendered reported (rendered.Text text) = reported text
 on_rendered reported rendered.TooLong = codes "too long"
-
--- the path of a TEST, by whether it left a note: it is then not made
-abbrev pub path_report : (noted : Bool) → Text → Text
-path_report noted path = if noted then codes "not made: " ++ shown path else shown path
 
 -- a text after a space; an empty one is left out with its space
 abbrev pub spaced : Text → Text
@@ -60,27 +55,16 @@ newly_set before now = filter (λ property. not (is_present property before)) no
 abbrev pub gone_from : List Pair → List Pair → List Pair
 gone_from now before = filter (λ property. is_none (value_of now property.0)) before
 
--- properties that were set
-abbrev pub set_report : List Text → Text
-set_report set = if is_empty set then codes "sets nothing" else codes "sets " ++ joined set
-
--- properties that were set besides those that were removed
-abbrev pub also_set : List Text → Text
-also_set set = if is_empty set then [] else codes ", sets " ++ joined set
-
 -- properties that were removed and set
 abbrev pub change_report : List Text → List Text → Text
-change_report removed set = if is_empty removed then set_report set else codes "removes " ++ joined removed ++ also_set set
+change_report removed set =
+    if is_empty removed then (if is_empty set then codes "sets nothing" else codes "sets " ++ joined set)
+    else codes "removes " ++ joined removed ++ (if is_empty set then [] else codes ", sets " ++ joined set)
 
 -- the properties that were removed and set, by those before and those now
 abbrev pub taken_report : List Pair → List Pair → Text
 taken_report before now =
     change_report (map (λ property. shown property.0) (gone_from now before)) (map property_report (newly_set before now))
-
--- what an IMPORT{parent} met, by the properties after it; udev renders its value
-abbrev pub parent_report : Profile → Text → State → List Pair → Text
-parent_report profile.Manual value s env = taken_report s.env env
-parent_report profile.Udev value s env = on_rendered (λ names. taken_report s.env env) (names_text value s)
 
 -- the command of an IMPORT{program} and what the event's block answers to it, and then what was removed and set of
 -- properties, by those before and those now
@@ -88,47 +72,40 @@ abbrev pub printed_report : Text → Option AnswerValue → List Pair → List P
 printed_report command None before now = answer_report command None
 printed_report command (Some answer) before now = answer_report command (Some answer) ++ codes ", " ++ taken_report before now
 
--- what an IMPORT{program} met, by the properties after it; by the manual it is not run
-abbrev pub program_import_report : Profile → Template → State → List Pair → Text
-program_import_report profile.Manual template s env = codes "not run"
-program_import_report profile.Udev template s env =
-    on_rendered (λ command. printed_report command (value_of s.event.programs command) s.env env) (import_text most_command_bytes template s)
-
 -- what was removed and set of properties, by those before and those now; an import that left a note was not run
 abbrev pub noted_report : (noted : Bool) → List Pair → List Pair → Text
 noted_report noted before now = if noted then codes "not run" else taken_report before now
 
--- what an IMPORT{file} met, by whether it left a note and the properties after it; by the manual it is not run
-abbrev pub file_report : Profile → Template → State → (noted : Bool) → List Pair → Text
-file_report profile.Manual template s noted env = codes "not run"
-file_report profile.Udev template s noted env = on_rendered (λ path. noted_report noted s.env env) (import_text most_path_bytes template s)
+-- the text that an IMPORT looks at: for the manual the command of a builtin, and for udev also that of a program, the
+-- path of a file and the names of IMPORT{parent}
+abbrev pub import_asked : Profile → Import → State → Rendered
+import_asked profile (import.Builtin template) s = import_text most_command_bytes template s
+import_asked profile.Udev (import.Program template) s = import_text most_command_bytes template s
+import_asked profile.Udev (import.File template) s = import_text most_path_bytes template s
+import_asked profile.Udev (import.Parent names value) s = names_text value s
+import_asked profile other s = rendered.Text []
 
--- what an IMPORT{cmdline} met, by whether it left a note and the properties after it; by the manual it is not run
-abbrev pub cmdline_report : Profile → State → (noted : Bool) → List Pair → Text
-cmdline_report profile.Manual s noted env = codes "not run"
-cmdline_report profile.Udev s noted env = noted_report noted s.env env
+-- what an IMPORT of a text met, by whether it left a note and the properties after it
+abbrev pub import_report : Profile → Import → State → (noted : Bool) → List Pair → Text → Text
+import_report profile (import.Builtin template) s noted env command = shown command ++ space ∷ taken_report s.env env
+import_report profile.Udev (import.Program template) s noted env command = printed_report command (value_of s.event.programs command) s.env env
+import_report profile other s noted env text = noted_report noted s.env env
 
--- what an IMPORT{db} met, by the properties after it; by the manual it is not run, nor if it is not known what was stored
-abbrev pub stored_report : Profile → State → List Pair → Text
-stored_report profile.Manual s env = codes "not run"
-stored_report profile.Udev s env = if is_stored_known s.event then taken_report s.env env else codes "not run"
+-- the text that an act looks at
+abbrev pub act_asked : ActKind → State → Rendered
+act_asked (act_kind.Test mask template) s = test_text template s
+act_asked (act_kind.Program template) s = program_text template s
+act_asked (act_kind.Import from) s = import_asked s.event.profile from s
 
--- what an IMPORT met, by whether it left a note and the properties after it
-abbrev pub import_report : Import → State → (noted : Bool) → List Pair → Text
-import_report (import.Builtin template) s noted env =
-    on_rendered (λ command. shown command ++ space ∷ taken_report s.env env) (import_text most_command_bytes template s)
-import_report (import.Parent names value) s noted env = parent_report s.event.profile value s env
-import_report (import.Program template) s noted env = program_import_report s.event.profile template s env
-import_report (import.File template) s noted env = file_report s.event.profile template s noted env
-import_report (import.Cmdline name) s noted env = cmdline_report s.event.profile s noted env
-import_report (import.Db name) s noted env = stored_report s.event.profile s env
+-- what an act of a text met, by whether it left a note and the properties after it; a TEST that left one is not made
+abbrev pub asked_report : ActKind → State → (noted : Bool) → List Pair → Text → Text
+asked_report (act_kind.Test mask template) s noted env path = if noted then codes "not made: " ++ shown path else shown path
+asked_report (act_kind.Program template) s noted env command = answer_report command (value_of s.event.programs command)
+asked_report (act_kind.Import from) s noted env text = import_report s.event.profile from s noted env text
 
 -- what an act met, by whether it left a note and the properties after it
 abbrev pub act_kind_report : ActKind → State → (noted : Bool) → List Pair → Text
-act_kind_report (act_kind.Test mask template) s noted env = on_rendered (path_report noted) (test_text template s)
-act_kind_report (act_kind.Program template) s noted env =
-    on_rendered (λ command. answer_report command (value_of s.event.programs command)) (program_text template s)
-act_kind_report (act_kind.Import from) s noted env = import_report from s noted env
+act_kind_report kind s noted env = on_rendered (asked_report kind s noted env) (act_asked kind s)
 
 -- whether a scene has other notes than one before it
 abbrev pub has_noted : (before after : Scene) → Bool

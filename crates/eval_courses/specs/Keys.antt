@@ -11,7 +11,6 @@ use Rattle.rule_types.specs.declared.part.Act.{Act}
 use Rattle.rule_types.specs.declared.part.Comparison.{Comparison}
 use Rattle.rule_types.specs.declared.part.ActKind.{ActKind}
 use Rattle.rule_types.specs.declared.part.ActKind.TheVariants as act_kind
-use Rattle.rule_types.specs.declared.part.Import.{Import}
 use Rattle.rule_types.specs.declared.part.Import.TheVariants as import
 use Rattle.rule_types.specs.declared.part.PlainMatch.{PlainMatch}
 use Rattle.rule_types.specs.declared.part.UpMatch.{UpMatch}
@@ -48,20 +47,16 @@ up_key part = key_text (key_of_up part.key) (attribute_of_up part.key) ++ compar
 abbrev pub result_key : Comparison → Text
 result_key part = key_text key.Result None ++ comparison_text part
 
--- the value of an IMPORT as it was given
-abbrev pub value_of_import : Import → Text
-value_of_import (import.Program template) = template.written
-value_of_import (import.Builtin template) = template.written
-value_of_import (import.File template) = template.written
-value_of_import (import.Parent names value) = value
-value_of_import (import.Cmdline name) = name
-value_of_import (import.Db name) = name
-
 -- the value of an act as it was given
 abbrev pub value_of_act_kind : ActKind → Text
 value_of_act_kind (act_kind.Test mask template) = template.written
 value_of_act_kind (act_kind.Program template) = template.written
-value_of_act_kind (act_kind.Import from) = value_of_import from
+value_of_act_kind (act_kind.Import (import.Program template)) = template.written
+value_of_act_kind (act_kind.Import (import.Builtin template)) = template.written
+value_of_act_kind (act_kind.Import (import.File template)) = template.written
+value_of_act_kind (act_kind.Import (import.Parent names value)) = value
+value_of_act_kind (act_kind.Import (import.Cmdline name)) = name
+value_of_act_kind (act_kind.Import (import.Db name)) = name
 
 -- an act
 abbrev pub act_key : Act → Text

@@ -2,27 +2,24 @@
 //!
 //! What an act looks at is rendered before it is done, and what it sets is known after it: what is reported of it is
 //! made in two parts.
-ghost use Rattle.std.specs.Prelude.{◌≡◌, ◌∷◌, ◌++◌, [], Bool, IfOk, OnOk, List, codes, if◌then◌else◌};
-ghost use Rattle.text_tables.specs.Pairs.{Pair, value_of};
-ghost use Rattle.eval_acts.specs.ActTexts.{program_text, test_text};
+ghost use Rattle.std.specs.Prelude.{◌≡◌, ◌∷◌, ◌++◌, [], Bool, IfOk, OnOk, List};
+ghost use Rattle.text_tables.specs.Pairs.{Pair};
 ghost use Rattle.eval_acts.specs.Acts.{act_step};
-ghost use Rattle.eval_courses.specs.Acts.{act_kind_report, act_report, answer_report};
-ghost use Rattle.eval_courses.specs.Acts.{noted_report, on_rendered, path_report, taken_report};
+ghost use Rattle.eval_courses.specs.Acts.{act_asked, act_kind_report, act_report, asked_report};
 ghost use Rattle.eval_courses.specs.Inner.{done_report, report_after};
 ghost use Rattle.eval_courses.specs.Keys.{act_key};
 ghost use Rattle.eval_courses.specs.Looks.{met};
 
-use crate::answers::command_asked;
-use crate::imports::import_report_before;
-use crate::keys::push_act_key;
+use crate::answers::{answer_report, answer_to};
+use crate::imports::{import_asked, import_report_before};
+use crate::keys::Written;
 use crate::plain::push_met;
-use crate::properties::{newly_set, push_changed, removed};
+use crate::properties::push_taken;
 use builtin_knowledge::Knowledge;
 use eval_acts::{act_step, program_text, test_text};
 use eval_effects::push_shown;
 use eval_rendering::Rendered;
 use eval_state::{Scene, State};
-use rule_templates::Template;
 use rule_types::{Act, ActKind, Rule};
 use std::alloc::{AllocError, Global};
 use text_bytes::Bytes;
@@ -42,38 +39,44 @@ pub(crate) enum ReportBefore {
     Testing(Bytes),
 }
 
-/// What is known of the report on a TEST before it is made.
-fn test_report_before(
+/// The text that an act looks at.
+fn act_asked(
     alloc: Global,
-    template: &Template,
-    state: &State<'_>,
-) -> Result<ReportBefore, AllocError>
-    ensures { IfOk result (λ o. (noted : Bool) (env : List Pair)
-        → report_after o noted env ≡ on_rendered (path_report noted) (test_text template.now state.now)) }
+    act_kind: &ActKind,
+    state: &mut State<'_>,
+) -> Result<Rendered, AllocError>
+    ensures text { IfOk result (λ text. text ≡ act_asked act_kind.now state.old) }
+    ensures kept { state.new ≡ state.old }
 {
-    match test_text(alloc, template, state)? {
-        Rendered::Text(path) => {
-            let mut text = Vec::new(alloc);
-            push_shown(alloc, &mut text, path.as_slice())?;
-            Ok(ReportBefore::Testing(Bytes::new(text)))
-        }
-        Rendered::TooLong => Ok(ReportBefore::Whole(Bytes::copy_of(alloc, b"too long")?)),
+    match act_kind {
+        ActKind::Test(_, template) => test_text(alloc, template, state),
+        ActKind::Program(template) => program_text(alloc, template, state),
+        ActKind::Import(from) => import_asked(alloc, from, state),
     }
 }
 
-/// What is reported for a PROGRAM.
-fn program_report(
+/// What is known of the report on an act of a text before it is done.
+fn asked_report_before(
     alloc: Global,
-    template: &Template,
-    state: &mut State<'_>,
-) -> Result<Bytes, AllocError>
-    ensures text { IfOk result (λ text. text
-        ≡ on_rendered (λ command. answer_report command (value_of state.old.event.programs command)) (program_text template.now state.old)) }
-    ensures kept { state.new ≡ state.old }
+    act_kind: &ActKind,
+    text: &[u8],
+    state: &State<'_>,
+) -> Result<ReportBefore, AllocError>
+    ensures { IfOk result (λ o. (noted : Bool) (env : List Pair)
+        → report_after o noted env ≡ asked_report act_kind.now state.now noted env text.now) }
 {
-    match program_text(alloc, template, state)? {
-        Rendered::Text(command) => command_asked(alloc, command.as_slice(), state),
-        Rendered::TooLong => Bytes::copy_of(alloc, b"too long"),
+    match act_kind {
+        ActKind::Test(_, _) => {
+            let mut path = Vec::new(alloc);
+            push_shown(alloc, &mut path, text)?;
+            Ok(ReportBefore::Testing(Bytes::new(path)))
+        }
+        ActKind::Program(_) => Ok(ReportBefore::Whole(Bytes::new(answer_report(
+            alloc,
+            text,
+            answer_to(state, text),
+        )?))),
+        ActKind::Import(from) => import_report_before(alloc, from, text, state),
     }
 }
 
@@ -86,52 +89,10 @@ fn report_before(
     ensures reported { IfOk result (λ o. (noted : Bool) (env : List Pair) → report_after o noted env ≡ act_kind_report act_kind.now state.old noted env) }
     ensures kept { state.new ≡ state.old }
 {
-    match act_kind {
-        ActKind::Test(_, template) => test_report_before(alloc, template, state),
-        ActKind::Program(template) => Ok(ReportBefore::Whole(program_report(
-            alloc, template, state,
-        )?)),
-        ActKind::Import(from) => import_report_before(alloc, from, state),
+    match act_asked(alloc, act_kind, state)? {
+        Rendered::Text(text) => asked_report_before(alloc, act_kind, text.as_slice(), state),
+        Rendered::TooLong => Ok(ReportBefore::Whole(Bytes::copy_of(alloc, b"too long")?)),
     }
-}
-
-/// Appends what an act removed and set of properties to a text, or that it was not run.
-fn push_unless_noted(
-    alloc: Global,
-    text: &mut Vec<u8>,
-    noted: bool,
-    before: &CowPairs<'_>,
-    env: &CowPairs<'_>,
-) -> Result<(), AllocError>
-    ensures { OnOk result (text.new.items ≡ text.old.items ++ noted_report noted before.now env.now) }
-{
-    if noted {
-        return text.extend_from_slice(b"not run");
-    }
-    push_taken(alloc, text, before, env)
-}
-
-/// Appends the path of a TEST to a text, by whether that is made.
-fn push_path(text: &mut Vec<u8>, noted: bool, path: &[u8]) -> Result<(), AllocError>
-    ensures { OnOk result (text.new.items ≡ text.old.items ++ (if noted then codes "not made: " ++ path.now else path.now)) }
-{
-    if noted {
-        text.extend_from_slice(b"not made: ")?;
-    }
-    text.extend_from_slice(path)
-}
-
-/// Appends what was removed and set of properties to a text.
-fn push_taken(
-    alloc: Global,
-    text: &mut Vec<u8>,
-    before: &CowPairs<'_>,
-    env: &CowPairs<'_>,
-) -> Result<(), AllocError>
-    ensures { OnOk result (text.new.items ≡ text.old.items ++ taken_report before.now env.now) }
-{
-    let gone = removed(alloc, before, env)?;
-    push_changed(text, &gone, &newly_set(alloc, before, env)?)
 }
 
 /// Appends the report on an act that was done to a text.
@@ -150,10 +111,14 @@ fn push_after(
             text.extend_from_slice(reported.as_slice())?;
             push_taken(alloc, text, properties, env)
         }
-        ReportBefore::Importing(properties) => {
-            push_unless_noted(alloc, text, noted, properties, env)
+        ReportBefore::Importing(_) if noted => text.extend_from_slice(b"not run"),
+        ReportBefore::Importing(properties) => push_taken(alloc, text, properties, env),
+        ReportBefore::Testing(path) => {
+            if noted {
+                text.extend_from_slice(b"not made: ")?;
+            }
+            text.extend_from_slice(path.as_slice())
         }
-        ReportBefore::Testing(path) => push_path(text, noted, path.as_slice()),
     }
 }
 
@@ -169,7 +134,7 @@ fn act_met(
     ensures { IfOk result (λ text. text ≡ act_key act.now ++ met proceeds ++ report_after before.now noted env.now) }
 {
     let mut text = Vec::new(alloc);
-    push_act_key(alloc, &mut text, act)?;
+    act.push_written(alloc, &mut text)?;
     push_met(&mut text, proceeds)?;
     push_after(alloc, &mut text, before, noted, env)?;
     Ok(Bytes::new(text))

@@ -1,10 +1,6 @@
 //! What an act asks.
-ghost use Rattle.std.specs.Prelude.{◌≡◌, OnOk, is_some};
-ghost use Rattle.text_tables.specs.Pairs.{value_of};
-ghost use Rattle.rule_types.specs.declared.part.ActKind.TheVariants as act_kind;
-ghost use Rattle.eval_rendering.specs.Bounds.{most_command_bytes};
+ghost use Rattle.std.specs.Prelude.{◌≡◌, OnOk};
 ghost use Rattle.eval_rendering.specs.declared.rendered.Rendered.TheVariants as rendered;
-ghost use Rattle.eval_acts.specs.ActTexts.{import_text};
 ghost use Rattle.eval_courses.specs.Questions.{act_asks, builtin_asks, import_asks, unanswered, with_asked};
 
 use crate::commands::can_be_asked;
@@ -13,18 +9,10 @@ use eval_acts::{import_text, program_text};
 use eval_commands::{Builtin, builtin_question};
 use eval_rendering::{MAX_COMMAND_BYTES, Rendered};
 use eval_state::State;
-use rule_templates::Template;
 use rule_types::{ActKind, Import};
 use std::alloc::{AllocError, Global};
 use text_bytes::Profile;
 use text_tables::OwnedTexts;
-
-/// Whether an event's block answers a command.
-fn is_answered(event: &Event<'_>, command: &[u8]) -> bool
-    ensures { result ≡ is_some (value_of event.now.programs command.now) }
-{
-    event.programs().get(command).is_some()
-}
 
 /// Adds a command to those that are asked, unless the event's block answers it or no line can have it.
 fn ask_command(
@@ -35,7 +23,7 @@ fn ask_command(
 ) -> Result<(), AllocError>
     ensures { OnOk result (asked.new ≡ with_asked asked.old (unanswered event.now (rendered.Text command.now))) }
 {
-    if is_answered(event, command) {
+    if event.programs().get(command).is_some() {
         return Ok(());
     }
     if !can_be_asked(command) {
@@ -59,65 +47,24 @@ fn ask_rendered(
     }
 }
 
-/// Adds what a PROGRAM asks.
-fn ask_program(
-    alloc: Global,
-    template: &Template,
-    state: &mut State<'_>,
-    asked: &mut OwnedTexts,
-) -> Result<(), AllocError>
-    ensures asked { OnOk result (asked.new ≡ with_asked asked.old (act_asks (act_kind.Program template.now) state.old)) }
-    ensures kept { state.new ≡ state.old }
-{
-    let text = program_text(alloc, template, state)?;
-    ask_rendered(alloc, &text, state.event.event(), asked)
-}
-
-/// Adds what an IMPORT{program} asks under udev.
-fn ask_imported_program(
-    alloc: Global,
-    template: &Template,
-    state: &State<'_>,
-    asked: &mut OwnedTexts,
-) -> Result<(), AllocError>
-    ensures { OnOk result (asked.new ≡ with_asked asked.old (unanswered state.now.event (import_text most_command_bytes template.now state.now))) }
-{
-    let text = import_text(alloc, MAX_COMMAND_BYTES, template, state)?;
-    ask_rendered(alloc, &text, state.event.event(), asked)
-}
-
 /// Adds what the command of a builtin asks under udev: its question, if the builtin is not computed.
 fn ask_builtin(
     alloc: Global,
-    command: &[u8],
+    text: &Rendered,
     event: &Event<'_>,
     asked: &mut OwnedTexts,
 ) -> Result<(), AllocError>
-    ensures { OnOk result (asked.new ≡ with_asked asked.old (builtin_asks event.now (rendered.Text command.now))) }
+    ensures { OnOk result (asked.new ≡ with_asked asked.old (builtin_asks event.now text.now)) }
 {
-    match Builtin::read(alloc, Profile::Udev, command)? {
+    let Rendered::Text(command) = text else {
+        return Ok(());
+    };
+    match Builtin::read(alloc, Profile::Udev, command.as_slice())? {
         Builtin::Answered(_) => {
-            let question = builtin_question(alloc, command)?;
+            let question = builtin_question(alloc, command.as_slice())?;
             ask_command(alloc, question.as_slice(), event, asked)
         }
         _ => Ok(()),
-    }
-}
-
-/// Adds what an IMPORT{builtin} asks under udev.
-fn ask_imported_builtin(
-    alloc: Global,
-    template: &Template,
-    state: &State<'_>,
-    asked: &mut OwnedTexts,
-) -> Result<(), AllocError>
-    ensures { OnOk result (asked.new ≡ with_asked asked.old (builtin_asks state.now.event (import_text most_command_bytes template.now state.now))) }
-{
-    match import_text(alloc, MAX_COMMAND_BYTES, template, state)? {
-        Rendered::Text(command) => {
-            ask_builtin(alloc, command.as_slice(), state.event.event(), asked)
-        }
-        Rendered::TooLong => Ok(()),
     }
 }
 
@@ -130,12 +77,15 @@ fn ask_import(
 ) -> Result<(), AllocError>
     ensures { OnOk result (asked.new ≡ with_asked asked.old (import_asks state.now.event.profile from.now state.now)) }
 {
-    match (state.event.event().profile(), from) {
+    let event = state.event.event();
+    match (event.profile(), from) {
         (Profile::Udev, Import::Builtin(template)) => {
-            ask_imported_builtin(alloc, template, state, asked)
+            let text = import_text(alloc, MAX_COMMAND_BYTES, template, state)?;
+            ask_builtin(alloc, &text, event, asked)
         }
         (Profile::Udev, Import::Program(template)) => {
-            ask_imported_program(alloc, template, state, asked)
+            let text = import_text(alloc, MAX_COMMAND_BYTES, template, state)?;
+            ask_rendered(alloc, &text, event, asked)
         }
         _ => Ok(()),
     }
@@ -153,7 +103,10 @@ pub(crate) fn ask(
 {
     match act_kind {
         ActKind::Test(_, _) => Ok(()),
-        ActKind::Program(template) => ask_program(alloc, template, state, asked),
+        ActKind::Program(template) => {
+            let text = program_text(alloc, template, state)?;
+            ask_rendered(alloc, &text, state.event.event(), asked)
+        }
         ActKind::Import(from) => ask_import(alloc, from, state, asked),
     }
 }

@@ -1,11 +1,21 @@
 //! How a key of a rule is written.
 ghost use Rattle.std.specs.Prelude.{◌≡◌, ◌++◌, OnOk};
-ghost use Rattle.eval_courses.specs.Keys.{act_key, case_mark, comparison_text, operator_text, plain_key, result_key};
-ghost use Rattle.eval_courses.specs.Keys.{up_key, value_of_act_kind, value_of_import, wanted_text};
+ghost use Rattle.text_bytes.specs.Text.{Text};
+ghost use Rattle.eval_courses.specs.Keys.{case_mark, comparison_text, operator_text, value_of_act_kind, wanted_text};
 
 use eval_effects::{push_key, push_shortened};
 use rule_types::{Act, ActKind, Comparison, Import, Key, MatchOperator, PlainMatch, UpMatch};
 use std::alloc::{AllocError, Global};
+
+/// A key of a rule, as it is written.
+pub(crate) trait Written {
+    // how it is written
+    ghost written: { Self → Text };
+
+    /// Appends it to a text.
+    fn push_written(&self, alloc: Global, text: &mut Vec<u8>) -> Result<(), AllocError>
+        ensures { OnOk result (text.new.items ≡ text.old.items ++ written self.now) };
+}
 
 /// The operator of a match.
 fn operator_text(operator: MatchOperator) -> &'static [u8]
@@ -56,53 +66,39 @@ fn push_comparison(alloc: Global, text: &mut Vec<u8>, wanted: &Comparison) -> Re
     )
 }
 
-/// Appends a match of the event to a text.
-pub(crate) fn push_plain_key(
-    alloc: Global,
-    text: &mut Vec<u8>,
-    part: &PlainMatch,
-) -> Result<(), AllocError>
-    ensures { OnOk result (text.new.items ≡ text.old.items ++ plain_key part.now) }
-{
-    push_key(alloc, text, part.key.key(), part.key.attribute())?;
-    push_comparison(alloc, text, &part.wanted)
+/// A match of the event.
+impl Written for PlainMatch {
+    ghost use Rattle.eval_courses.specs.Keys.{plain_key};
+
+    ghost written = { plain_key };
+
+    fn push_written(&self, alloc: Global, text: &mut Vec<u8>) -> Result<(), AllocError> {
+        push_key(alloc, text, self.key.key(), self.key.attribute())?;
+        push_comparison(alloc, text, &self.wanted)
+    }
 }
 
-/// Appends a match of one device to a text.
-pub(crate) fn push_up_key(
-    alloc: Global,
-    text: &mut Vec<u8>,
-    part: &UpMatch,
-) -> Result<(), AllocError>
-    ensures { OnOk result (text.new.items ≡ text.old.items ++ up_key part.now) }
-{
-    push_key(alloc, text, part.key.key(), part.key.attribute())?;
-    push_comparison(alloc, text, &part.wanted)
+/// A match of one device.
+impl Written for UpMatch {
+    ghost use Rattle.eval_courses.specs.Keys.{up_key};
+
+    ghost written = { up_key };
+
+    fn push_written(&self, alloc: Global, text: &mut Vec<u8>) -> Result<(), AllocError> {
+        push_key(alloc, text, self.key.key(), self.key.attribute())?;
+        push_comparison(alloc, text, &self.wanted)
+    }
 }
 
-/// Appends a match of the result to a text.
-pub(crate) fn push_result_key(
-    alloc: Global,
-    text: &mut Vec<u8>,
-    part: &Comparison,
-) -> Result<(), AllocError>
-    ensures { OnOk result (text.new.items ≡ text.old.items ++ result_key part.now) }
-{
-    push_key(alloc, text, Key::Result, None)?;
-    push_comparison(alloc, text, part)
-}
+/// A match of the result.
+impl Written for Comparison {
+    ghost use Rattle.eval_courses.specs.Keys.{result_key};
 
-/// The value of an IMPORT as it was given.
-fn value_of_import(from: &Import) -> &[u8]
-    ensures { result.now ≡ value_of_import from.now }
-{
-    match from {
-        Import::Program(template) => template.written(),
-        Import::Builtin(template) => template.written(),
-        Import::File(template) => template.written(),
-        Import::Parent(_, value) => value.as_slice(),
-        Import::Cmdline(name) => name.as_slice(),
-        Import::Db(name) => name.as_slice(),
+    ghost written = { result_key };
+
+    fn push_written(&self, alloc: Global, text: &mut Vec<u8>) -> Result<(), AllocError> {
+        push_key(alloc, text, Key::Result, None)?;
+        push_comparison(alloc, text, self)
     }
 }
 
@@ -111,22 +107,29 @@ fn value_of_act_kind(act_kind: &ActKind) -> &[u8]
     ensures { result.now ≡ value_of_act_kind act_kind.now }
 {
     match act_kind {
-        ActKind::Test(_, template) => template.written(),
-        ActKind::Program(template) => template.written(),
-        ActKind::Import(from) => value_of_import(from),
+        ActKind::Test(_, template) | ActKind::Program(template) => template.written(),
+        ActKind::Import(
+            Import::Program(template) | Import::Builtin(template) | Import::File(template),
+        ) => template.written(),
+        ActKind::Import(Import::Parent(_, value) | Import::Cmdline(value) | Import::Db(value)) =>
+            value.as_slice(),
     }
 }
 
-/// Appends an act to a text.
-pub(crate) fn push_act_key(alloc: Global, text: &mut Vec<u8>, act: &Act) -> Result<(), AllocError>
-    ensures { OnOk result (text.new.items ≡ text.old.items ++ act_key act.now) }
-{
-    push_key(alloc, text, act.kind.key(), act.kind.attribute())?;
-    push_wanted(
-        alloc,
-        text,
-        act.operator,
-        false,
-        value_of_act_kind(&act.kind),
-    )
+/// What acts.
+impl Written for Act {
+    ghost use Rattle.eval_courses.specs.Keys.{act_key};
+
+    ghost written = { act_key };
+
+    fn push_written(&self, alloc: Global, text: &mut Vec<u8>) -> Result<(), AllocError> {
+        push_key(alloc, text, self.kind.key(), self.kind.attribute())?;
+        push_wanted(
+            alloc,
+            text,
+            self.operator,
+            false,
+            value_of_act_kind(&self.kind),
+        )
+    }
 }

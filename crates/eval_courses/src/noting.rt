@@ -41,13 +41,6 @@ impl Noted {
         }
     }
 
-    /// Reaches a rule.
-    fn enter(&mut self)
-        ensures { self.new ≡ record (self.old) { begun = 0 } }
-    {
-        self.begun = 0;
-    }
-
     /// Begins a key.
     fn begin(&mut self) -> Result<(), AllocError>
         ensures { OnOk result (self.new ≡ with_key self.old) }
@@ -68,13 +61,6 @@ impl Noted {
         self.fates.push(fate)?;
         Ok(())
     }
-
-    /// What became of the rules.
-    fn into_fates(self) -> Vec<Fate>
-        ensures { result.items ≡ self.fates }
-    {
-        self.fates
-    }
 }
 
 impl<'a> Watch<'a> for Noted {
@@ -91,7 +77,7 @@ impl<'a> Watch<'a> for Noted {
         match moment {
             Moment::Passed(_) => self.note(Fate::Passed),
             Moment::Entered(_) => {
-                self.enter();
+                self.begun = 0;
                 Ok(())
             }
             Moment::Meeting(_, _) => self.begin(),
@@ -143,5 +129,5 @@ pub fn fates<'a, K: Knowledge>(
     let went = run_watched(alloc, rules, knowledge, &mut noted, &mut scene);
     drop(scene);
     went?;
-    Ok(noted.into_fates())
+    Ok(noted.fates)
 }

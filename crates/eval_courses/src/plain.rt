@@ -1,13 +1,10 @@
-//! The matches of the event and of the result of the last program, and what they met.
+//! Matches of the event and of the result of the last program, and what they met.
 ghost use Rattle.std.specs.Prelude.{◌≡◌, ◌++◌, IfOk, OnOk};
-ghost use Rattle.eval_courses.specs.Looks.{met, plain_report, result_report};
+ghost use Rattle.eval_courses.specs.Inner.{subject_of};
+ghost use Rattle.eval_courses.specs.Looks.{looked, met};
 
-use crate::keys::{push_plain_key, push_result_key};
-use crate::subjects::{plain_subject, push_looked};
-use eval_effects::push_shown;
-use eval_matching::{plain_holds, result_holds};
-use eval_state::State;
-use rule_types::{Comparison, PlainMatch};
+use crate::keys::Written;
+use crate::subjects::{Subject, push_looked};
 use std::alloc::{AllocError, Global};
 use text_bytes::Bytes;
 
@@ -22,34 +19,18 @@ pub(crate) fn push_met(text: &mut Vec<u8>, proceeds: bool) -> Result<(), AllocEr
     }
 }
 
-/// A match of the event, and what it met.
-#[tactic(auto, unfolding(crate::specs::Looks::plain_report))]
-pub(crate) fn plain_report(
+/// A match, whether it holds, and what it looks at.
+pub(crate) fn match_report<P: Written>(
     alloc: Global,
-    part: &PlainMatch,
-    state: &State<'_>,
+    part: &P,
+    holds: bool,
+    subject: &Subject<'_, '_>,
 ) -> Result<Bytes, AllocError>
-    ensures { IfOk result (λ text. text ≡ plain_report part.now state.now) }
+    ensures { IfOk result (λ text. text ≡ P.written part.now ++ met holds ++ looked (subject_of subject.now)) }
 {
     let mut text = Vec::new(alloc);
-    push_plain_key(alloc, &mut text, part)?;
-    push_met(&mut text, plain_holds(part, state))?;
-    push_looked(alloc, &mut text, &plain_subject(&part.key, state))?;
-    Ok(Bytes::new(text))
-}
-
-/// A match of the result of the last program, and what it met.
-#[tactic(auto, unfolding(crate::specs::Looks::result_report))]
-pub(crate) fn result_report(
-    alloc: Global,
-    part: &Comparison,
-    state: &State<'_>,
-) -> Result<Bytes, AllocError>
-    ensures { IfOk result (λ text. text ≡ result_report part.now state.now) }
-{
-    let mut text = Vec::new(alloc);
-    push_result_key(alloc, &mut text, part)?;
-    push_met(&mut text, result_holds(part, state))?;
-    push_shown(alloc, &mut text, state.result.as_slice())?;
+    part.push_written(alloc, &mut text)?;
+    push_met(&mut text, holds)?;
+    push_looked(alloc, &mut text, subject)?;
     Ok(Bytes::new(text))
 }

@@ -2,7 +2,7 @@
 ghost use Rattle.std.specs.Prelude.{◌≡◌, ◌++◌, IfOk, OnOk, map};
 ghost use Rattle.eval_effects.specs.Items.{is_present};
 ghost use Rattle.eval_effects.specs.Shown.{shown};
-ghost use Rattle.eval_courses.specs.Acts.{also_set, change_report, gone_from, newly_set, property_report, set_report};
+ghost use Rattle.eval_courses.specs.Acts.{gone_from, newly_set, property_report, taken_report};
 
 use eval_effects::{push_joined, push_shown};
 use std::alloc::{AllocError, Global};
@@ -55,7 +55,7 @@ fn name_report(alloc: Global, name: &[u8]) -> Result<Bytes, AllocError>
 }
 
 /// The properties that are there now and were not there with the same value before.
-pub(crate) fn newly_set(
+fn newly_set(
     alloc: Global,
     before: &CowPairs<'_>,
     now: &CowPairs<'_>,
@@ -72,7 +72,7 @@ pub(crate) fn newly_set(
 }
 
 /// The names of the properties that were there before and are no longer.
-pub(crate) fn removed(
+fn removed(
     alloc: Global,
     before: &CowPairs<'_>,
     now: &CowPairs<'_>,
@@ -88,40 +88,29 @@ pub(crate) fn removed(
     Ok(texts)
 }
 
-/// Appends to a text which properties were set, if none was removed.
-fn push_set(text: &mut Vec<u8>, set: &[Bytes]) -> Result<(), AllocError>
-    ensures { OnOk result (text.new.items ≡ text.old.items ++ set_report set.now) }
+/// Appends to a text what was removed and set of properties, by those before and those now.
+pub(crate) fn push_taken(
+    alloc: Global,
+    text: &mut Vec<u8>,
+    before: &CowPairs<'_>,
+    now: &CowPairs<'_>,
+) -> Result<(), AllocError>
+    ensures { OnOk result (text.new.items ≡ text.old.items ++ taken_report before.now now.now) }
 {
-    if set.is_empty() {
-        return text.extend_from_slice(b"sets nothing");
+    let gone = removed(alloc, before, now)?;
+    let set = newly_set(alloc, before, now)?;
+    if gone.is_empty() {
+        if set.is_empty() {
+            return text.extend_from_slice(b"sets nothing");
+        }
+        text.extend_from_slice(b"sets ")?;
+        return push_joined(text, &set);
     }
-    text.extend_from_slice(b"sets ")?;
-    push_joined(text, set)
-}
-
-/// Appends to a text which properties were set besides those that were removed.
-fn push_also_set(text: &mut Vec<u8>, set: &[Bytes]) -> Result<(), AllocError>
-    ensures { OnOk result (text.new.items ≡ text.old.items ++ also_set set.now) }
-{
+    text.extend_from_slice(b"removes ")?;
+    push_joined(text, &gone)?;
     if set.is_empty() {
         return Ok(());
     }
     text.extend_from_slice(b", sets ")?;
-    push_joined(text, set)
-}
-
-/// Appends to a text which properties were removed and set.
-pub(crate) fn push_changed(
-    text: &mut Vec<u8>,
-    removed: &[Bytes],
-    set: &[Bytes],
-) -> Result<(), AllocError>
-    ensures { OnOk result (text.new.items ≡ text.old.items ++ change_report removed.now set.now) }
-{
-    if removed.is_empty() {
-        return push_set(text, set);
-    }
-    text.extend_from_slice(b"removes ")?;
-    push_joined(text, removed)?;
-    push_also_set(text, set)
+    push_joined(text, &set)
 }

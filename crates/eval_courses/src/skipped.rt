@@ -1,5 +1,5 @@
 //! How rules ended that are skipped, since nothing in them counts for the event.
-ghost use Rattle.std.specs.Prelude.{◌≡◌, ◌++◌, IfOk, OnOk, codes, if◌then◌else◌, map};
+ghost use Rattle.std.specs.Prelude.{◌≡◌, ◌++◌, IfOk, OnOk};
 ghost use Rattle.eval_effects.specs.Named.{change_key};
 ghost use Rattle.eval_courses.specs.Skipped.{cause_for, cause_of, is_bare, skipped_by, skipped_change, skipped_text};
 
@@ -16,28 +16,10 @@ fn cause_for(target: &Target, event: &Event<'_>) -> &'static [u8]
     ensures { result.now ≡ cause_for target.now event.now }
 {
     match target {
-        Target::Owner | Target::Group | Target::Mode | Target::Symlink => {
-            cause_if(
-                event.device().number().is_some(),
-                b"without a device number",
-            )
-        }
-        Target::Name => cause_if(
-            is_interface(event.device()),
-            b"without an interface (IFINDEX)",
-        ),
+        Target::Owner | Target::Group | Target::Mode | Target::Symlink
+            if event.device().number().is_none() => { b"without a device number" }
+        Target::Name if !is_interface(event.device()) => b"without an interface (IFINDEX)",
         _ => b"when the device is removed",
-    }
-}
-
-/// Why a key does nothing, by whether it applies to the device, and what that needs.
-fn cause_if(applies: bool, need: &'static [u8]) -> &'static [u8]
-    ensures { result.now ≡ (if applies then codes "when the device is removed" else need.now) }
-{
-    if applies {
-        b"when the device is removed"
-    } else {
-        need
     }
 }
 
@@ -67,17 +49,6 @@ fn skipped_change(alloc: Global, change: &Change, event: &Event<'_>) -> Result<B
     text.extend_from_slice(b" does nothing ")?;
     text.extend_from_slice(cause_of(change, event))?;
     Ok(Bytes::new(text))
-}
-
-/// What is said of each assignment of a rule that does not count for an event.
-fn skipped_changes(alloc: Global, rule: &Rule, event: &Event<'_>) -> Result<Vec<Bytes>, AllocError>
-    ensures { IfOk result (λ texts. texts.items ≡ map (λ a. skipped_change event.now a.change) rule.now.sets) }
-{
-    let mut texts = Vec::new(alloc);
-    for assignment in &rule.sets {
-        texts.push(skipped_change(alloc, &assignment.change, event)?)?;
-    }
-    Ok(texts)
 }
 
 /// What of a rule does nothing, by what is said of each assignment.
@@ -115,5 +86,9 @@ pub(crate) fn skipped_text(
     if is_bare(rule) {
         return Bytes::copy_of(alloc, b"reached its end");
     }
-    skipped_by(alloc, &skipped_changes(alloc, rule, event)?)
+    let mut reported = Vec::new(alloc);
+    for assignment in &rule.sets {
+        reported.push(skipped_change(alloc, &assignment.change, event)?)?;
+    }
+    skipped_by(alloc, &reported)
 }

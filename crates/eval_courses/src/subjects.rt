@@ -2,7 +2,6 @@
 ghost use Rattle.std.specs.Prelude.{◌≡◌, ◌++◌, OnOk, map, option_map};
 ghost use Rattle.eval_state.specs.Chains.{device_at, kernel_of};
 ghost use Rattle.eval_state.specs.Texts.{or_empty};
-ghost use Rattle.eval_matching.specs.Borrowed.{borrowed_subject};
 ghost use Rattle.eval_matching.specs.Subjects.{members_by, named_constant, plain_subject, tags_at, up_subject};
 ghost use Rattle.eval_courses.specs.Inner.{subject_of};
 ghost use Rattle.eval_courses.specs.Looks.{looked, members_report, value_report};
@@ -16,7 +15,6 @@ use eval_state::State;
 use rule_types::{PlainKey, UpKey};
 use std::alloc::{AllocError, Global};
 use text_bytes::Profile;
-use text_tables::Pairs;
 
 /// What a match looks at.
 #[derive(Drop)]
@@ -39,24 +37,6 @@ pub(crate) enum Subject<'s, 'a> {
     Unread,
 }
 
-/// The constants of the event.
-fn constants_of<'s, 'a>(state: &'s State<'a>) -> &'s Pairs<'a>
-    ensures { result.now ≡ state.now.event.constants }
-{
-    state.event.event().constants()
-}
-
-/// What a match of a constant looks at.
-fn named_constant<'s, 'a>(name: &[u8], state: &'s State<'a>) -> Subject<'s, 'a>
-    ensures { subject_of result ≡ named_constant name.now state.now }
-{
-    if is_known_constant(name) {
-        Subject::Constant(constants_of(state).get(name))
-    } else {
-        Subject::Unknown
-    }
-}
-
 /// The assigned name, empty if there is none.
 fn assigned_name<'s>(state: &'s State<'_>) -> &'s [u8]
     ensures { result.now ≡ or_empty state.now.name }
@@ -67,11 +47,15 @@ fn assigned_name<'s>(state: &'s State<'_>) -> &'s [u8]
     }
 }
 
-/// The profile by which rules are evaluated over the event.
-fn profile_of(state: &State<'_>) -> Profile
-    ensures { result ≡ state.now.event.profile }
+/// What a match of a constant looks at.
+fn named_constant<'s, 'a>(name: &[u8], state: &'s State<'a>) -> Subject<'s, 'a>
+    ensures { subject_of result ≡ named_constant name.now state.now }
 {
-    state.event.event().profile()
+    if is_known_constant(name) {
+        Subject::Constant(state.event.event().constants().get(name))
+    } else {
+        Subject::Unknown
+    }
 }
 
 /// The action of the event.
@@ -88,25 +72,19 @@ fn path_of<'s>(state: &'s State<'_>) -> &'s [u8]
     state.event.device().path()
 }
 
-/// The links as rules left them.
-fn links_of<'s, 'a>(state: &'s State<'a>) -> Subject<'s, 'a>
-    ensures { subject_of result ≡ members_by state.now.event.profile state.now.links }
-{
-    Subject::Members(profile_of(state), state.links.as_slice())
-}
-
 /// What a match of the event looks at.
 pub(crate) fn plain_subject<'s, 'a>(key: &PlainKey, state: &'s State<'a>) -> Subject<'s, 'a>
     ensures { subject_of result ≡ plain_subject key.now state.now }
 {
+    let profile = state.event.event().profile();
     match key {
         PlainKey::Action => Subject::One(action_of(state)),
         PlainKey::Devpath => Subject::One(path_of(state)),
         PlainKey::Kernel => Subject::One(state.event.kernel()),
-        PlainKey::Subsystem => Subject::Subsystem(profile_of(state), subsystem_at(state, 0)),
+        PlainKey::Subsystem => Subject::Subsystem(profile, subsystem_at(state, 0)),
         PlainKey::Driver => Subject::One(driver_at(state, 0)),
         PlainKey::Name => Subject::One(assigned_name(state)),
-        PlainKey::Symlink => links_of(state),
+        PlainKey::Symlink => Subject::Members(profile, state.links.as_slice()),
         PlainKey::Tag => tags_at(state, 0),
         PlainKey::Attr(name) => Subject::Attribute(event_attribute(state, name.as_slice())),
         PlainKey::Sysctl(_) => Subject::Unread,
@@ -119,12 +97,13 @@ pub(crate) fn plain_subject<'s, 'a>(key: &PlainKey, state: &'s State<'a>) -> Sub
 fn tags_at<'s, 'a>(state: &'s State<'a>, place: usize) -> Subject<'s, 'a>
     ensures { subject_of result ≡ members_by state.now.event.profile (tags_at state.now place) }
 {
+    let profile = state.event.event().profile();
     if place == 0 {
-        return Subject::Members(profile_of(state), state.tags.as_slice());
+        return Subject::Members(profile, state.tags.as_slice());
     }
     match state.event.device_at(place) {
-        Some(device) => Subject::Given(profile_of(state), device.tags().as_slice()),
-        None => Subject::Given(profile_of(state), &[]),
+        Some(device) => Subject::Given(profile, device.tags().as_slice()),
+        None => Subject::Given(profile, &[]),
     }
 }
 
@@ -148,22 +127,12 @@ pub(crate) fn up_subject<'s, 'a>(key: &UpKey, state: &'s State<'a>, place: usize
     }
 }
 
-/// Whether an attribute is absent.
-fn has_none(attribute: &Attribute<'_>) -> bool
-    ensures { result ≡ is_absent (borrowed_subject attribute.now) }
-{
-    match attribute {
-        Attribute::Manual(value) | Attribute::Udev(value) => value.is_none(),
-        Attribute::NotRead => false,
-    }
-}
-
 /// Whether it is an attribute that is absent.
 pub(crate) fn is_absent(subject: &Subject<'_, '_>) -> bool
     ensures { result ≡ is_absent (subject_of subject.now) }
 {
     match subject {
-        Subject::Attribute(value) => has_none(value),
+        Subject::Attribute(Attribute::Manual(value) | Attribute::Udev(value)) => value.is_none(),
         _ => false,
     }
 }
@@ -208,20 +177,6 @@ fn push_given(alloc: Global, text: &mut Vec<u8>, members: &[&[u8]]) -> Result<()
     Ok(())
 }
 
-/// Appends an attribute to a text.
-fn push_attribute(
-    alloc: Global,
-    text: &mut Vec<u8>,
-    attribute: &Attribute<'_>,
-) -> Result<(), AllocError>
-    ensures { OnOk result (text.new.items ≡ text.old.items ++ looked (borrowed_subject attribute.now)) }
-{
-    match attribute {
-        Attribute::Manual(value) | Attribute::Udev(value) => push_value(alloc, text, *value),
-        Attribute::NotRead => text.extend_from_slice(b"not in the block"),
-    }
-}
-
 /// Appends what a match looked at to a text.
 #[tactic(auto, using(crate::proofs::Looking::looked_subsystem, crate::proofs::Looking::looked_members))]
 pub(crate) fn push_looked(
@@ -234,7 +189,10 @@ pub(crate) fn push_looked(
     match subject {
         Subject::One(one) => push_shown(alloc, text, one),
         Subject::Subsystem(_, subsystem) => push_shown(alloc, text, subsystem),
-        Subject::Attribute(attribute) => push_attribute(alloc, text, attribute),
+        Subject::Attribute(Attribute::Manual(value) | Attribute::Udev(value)) => {
+            push_value(alloc, text, *value)
+        }
+        Subject::Attribute(Attribute::NotRead) => text.extend_from_slice(b"not in the block"),
         Subject::Constant(value) => push_value(alloc, text, *value),
         Subject::Members(_, members) => push_members(alloc, text, members),
         Subject::Given(_, members) => push_given(alloc, text, members),

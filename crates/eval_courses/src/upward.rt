@@ -1,14 +1,13 @@
 //! The matches of one device, what they met device by device, and the outcome of the search.
-ghost use Rattle.std.specs.Prelude.{◌≡◌, ◌++◌, IfOk, OnOk, false, length, map};
+ghost use Rattle.std.specs.Prelude.{◌≡◌, ◌++◌, IfOk, OnOk, length, map};
 ghost use Rattle.std.specs.List.{list_any};
 ghost use Rattle.device_core.specs.Values.{chain};
 ghost use Rattle.eval_matching.specs.Subjects.{found_place, holds_at, up_subject};
-ghost use Rattle.eval_courses.specs.Inner.{subject_of};
-ghost use Rattle.eval_courses.specs.Upward.{device_report, found_report, hits, meets_all, met_at, name_at, partial_report};
-ghost use Rattle.eval_courses.specs.Upward.{partly, places, search_reports, unmet, up_report};
+ghost use Rattle.eval_courses.specs.Upward.{device_report, found_report, hits, meets_all, met_at, partial_report};
+ghost use Rattle.eval_courses.specs.Upward.{partly, places, search_reports, up_report};
 
-use crate::keys::push_up_key;
-use crate::subjects::{Subject, is_absent, kernel_at, push_looked, up_subject};
+use crate::keys::Written;
+use crate::subjects::{is_absent, kernel_at, push_looked, up_subject};
 use eval_effects::{push_joined, push_shown};
 use eval_matching::{found_place, holds_at};
 use eval_state::State;
@@ -16,33 +15,6 @@ use itoa::Buffer;
 use rule_types::UpMatch;
 use std::alloc::{AllocError, Global};
 use text_bytes::Bytes;
-
-/// Appends the kernel's name of the device at a place to a text.
-fn push_name(
-    alloc: Global,
-    text: &mut Vec<u8>,
-    state: &State<'_>,
-    place: usize,
-) -> Result<(), AllocError>
-    ensures { OnOk result (text.new.items ≡ text.old.items ++ name_at state.now place) }
-{
-    push_shown(alloc, text, kernel_at(state, place))
-}
-
-/// Appends what a match that fails met to a text.
-fn push_failing(
-    alloc: Global,
-    text: &mut Vec<u8>,
-    subject: &Subject<'_, '_>,
-) -> Result<(), AllocError>
-    ensures { OnOk result (text.new.items ≡ text.old.items ++ met_at false (subject_of subject.now)) }
-{
-    if is_absent(subject) {
-        return text.extend_from_slice(b" has none");
-    }
-    text.extend_from_slice(b" fails, ")?;
-    push_looked(alloc, text, subject)
-}
 
 /// Appends what a match met at the device at a place to a text.
 fn push_met_at(
@@ -57,7 +29,12 @@ fn push_met_at(
     if holds_at(part, state, place) {
         return text.extend_from_slice(b" holds");
     }
-    push_failing(alloc, text, &up_subject(&part.key, state, place))
+    let subject = up_subject(&part.key, state, place);
+    if is_absent(&subject) {
+        return text.extend_from_slice(b" has none");
+    }
+    text.extend_from_slice(b" fails, ")?;
+    push_looked(alloc, text, &subject)
 }
 
 /// The device at a place, and what a match met at it.
@@ -71,7 +48,7 @@ fn device_report(
     ensures { IfOk result (λ text. text ≡ device_report part.now state.now place) }
 {
     let mut text = Vec::new(alloc);
-    push_name(alloc, &mut text, state, place)?;
+    push_shown(alloc, &mut text, kernel_at(state, place))?;
     push_met_at(alloc, &mut text, part, state, place)?;
     Ok(Bytes::new(text))
 }
@@ -104,7 +81,7 @@ fn up_report(alloc: Global, part: &UpMatch, state: &State<'_>) -> Result<Bytes, 
     ensures { IfOk result (λ text. text ≡ up_report part.now state.now) }
 {
     let mut text = Vec::new(alloc);
-    push_up_key(alloc, &mut text, part)?;
+    part.push_written(alloc, &mut text)?;
     text.extend_from_slice(b": ")?;
     push_joined(&mut text, &device_reports(alloc, part, state)?)?;
     Ok(Bytes::new(text))
@@ -134,7 +111,7 @@ fn partial_report(
     ensures { IfOk result (λ text. text ≡ partial_report parts.now state.now place) }
 {
     let mut text = Vec::new(alloc);
-    push_name(alloc, &mut text, state, place)?;
+    push_shown(alloc, &mut text, kernel_at(state, place))?;
     text.extend_from_slice(b" meets ")?;
     text.extend_from_slice(Buffer::new().format(hits(parts, state, place)).as_bytes())?;
     text.extend_from_slice(b" of ")?;
@@ -171,17 +148,6 @@ fn partial_reports(
     Ok(texts)
 }
 
-/// Appends what no device meets to a text: any of the matches, or all of them, with the devices that meet some.
-fn push_unmet(text: &mut Vec<u8>, devices: &[Bytes]) -> Result<(), AllocError>
-    ensures { OnOk result (text.new.items ≡ text.old.items ++ unmet devices.now) }
-{
-    if devices.is_empty() {
-        return text.extend_from_slice(b"any");
-    }
-    text.extend_from_slice(b"all: ")?;
-    push_joined(text, devices)
-}
-
 /// What the device that is found does: if the rule is skipped, it is not selected.
 fn meets_all(idle: bool) -> &'static [u8]
     ensures { result.now ≡ meets_all idle }
@@ -203,32 +169,20 @@ fn found_report(
     ensures { IfOk result (λ text. text ≡ found_report idle parts.now state.now (found_place parts.now state.now)) }
 {
     let mut text = Vec::new(alloc);
-    match found_place(parts, state) {
-        Some(place) => {
-            push_name(alloc, &mut text, state, place)?;
-            text.extend_from_slice(meets_all(idle))?;
-        }
-        None => {
-            text.extend_from_slice(b"no device meets ")?;
-            push_unmet(&mut text, &partial_reports(alloc, parts, state)?)?;
-        }
+    if let Some(place) = found_place(parts, state) {
+        push_shown(alloc, &mut text, kernel_at(state, place))?;
+        text.extend_from_slice(meets_all(idle))?;
+        return Ok(Bytes::new(text));
     }
+    text.extend_from_slice(b"no device meets ")?;
+    let devices = partial_reports(alloc, parts, state)?;
+    if devices.is_empty() {
+        text.extend_from_slice(b"any")?;
+        return Ok(Bytes::new(text));
+    }
+    text.extend_from_slice(b"all: ")?;
+    push_joined(&mut text, &devices)?;
     Ok(Bytes::new(text))
-}
-
-/// Adds the text of each match of one device.
-fn report_each(
-    alloc: Global,
-    parts: &[UpMatch],
-    state: &State<'_>,
-    texts: &mut Vec<Bytes>,
-) -> Result<(), AllocError>
-    ensures { OnOk result (texts.new.items ≡ texts.old.items ++ map (λ part. up_report part state.now) parts.now) }
-{
-    for part in parts {
-        texts.push(up_report(alloc, part, state)?)?;
-    }
-    Ok(())
 }
 
 /// Adds the texts of the search for one device, by whether the rule is skipped: each of its matches, and its outcome.
@@ -245,7 +199,9 @@ pub(crate) fn report_search(
     if parts.is_empty() {
         return Ok(());
     }
-    report_each(alloc, parts, state, texts)?;
+    for part in parts {
+        texts.push(up_report(alloc, part, state)?)?;
+    }
     texts.push(found_report(alloc, idle, parts, state)?)?;
     Ok(())
 }

@@ -1,6 +1,0 @@
-use Rattle.std.proofs.Common.{◌≡◌, ◌++◌, take, map}
-use Rattle.eval_courses.specs.Keys.{up_key}
-use Rattle.eval_courses.proofs.key_lists.push_up_keys.Given as goal
-
-abbrev pub invariant-loop-part : goal.invariant-loop-part
-invariant-loop-part l = l.keys.items ≡ l.initial.keys.items ++ map up_key (take l.part-index l.parts)

@@ -1,6 +1,0 @@
-use Rattle.std.proofs.Common.{◌≡◌, map, take}
-use Rattle.eval_courses.specs.Skipped.{skipped_change}
-use Rattle.eval_courses.proofs.skipped.skipped_changes.Given as goal
-
-abbrev pub invariant-loop-assignment : goal.invariant-loop-assignment
-invariant-loop-assignment l = l.texts.items ≡ map (λ a. skipped_change l.event a.change) (take l.assignment-index l.assignment-items)

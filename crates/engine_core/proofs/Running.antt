@@ -28,8 +28,8 @@ use Rattle.engine_sessions.specs.Serves.{AnswersAll, Serves, StopsBefore}
 use Rattle.engine_sessions.specs.Sessions.{answers_as}
 use Rattle.engine_sessions.specs.Tallies.{SaysAll, events_of, with_said}
 use Rattle.engine_sessions.proofs.Saying.{said_serve}
-use Rattle.engine_unused.specs.Rows.{TallyValue, counted, unreached}
-use Rattle.engine_unused.specs.Unused.{lines_by, rules_named, unused_lines}
+use Rattle.engine_courses.specs.Rows.{TallyValue, counted, unreached}
+use Rattle.engine_courses.specs.Unused.{lines_by, rules_named, unused_lines}
 use Rattle.engine_sessions.proofs.Serving.{answers_serve, reports_serve}
 use Rattle.builtin_core.specs.Builtins.{Held, known_by}
 use Rattle.engine_answers.specs.Answers.{answer_by}

@@ -31,7 +31,7 @@ use Rattle.engine_sessions.specs.Outcomes.{input_outcome}
 use Rattle.engine_sessions.specs.Sessions.{answers_as}
 use Rattle.engine_sessions.specs.Tallies.{events_of, with_said}
 use Rattle.engine_sessions.specs.declared.following.Telling.{Telling}
-use Rattle.engine_unused.specs.Unused.{unused_lines}
+use Rattle.engine_courses.specs.Unused.{unused_lines}
 
 -- the texts of a line's `--why`
 abbrev pub why_of : Line → List Text

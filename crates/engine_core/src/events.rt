@@ -9,21 +9,20 @@ ghost use Rattle.engine_reports.specs.Reports.{IsRefused, shown_rules};
 ghost use Rattle.engine_sessions.specs.Serves.{AnswersAll};
 ghost use Rattle.engine_sessions.specs.Sessions.{answers_as};
 ghost use Rattle.engine_sessions.specs.Tallies.{SaysAll, events_of};
-ghost use Rattle.engine_unused.specs.Unused.{unused_lines};
+ghost use Rattle.engine_courses.specs.Unused.{unused_lines};
 
 use crate::asked::AskedTables;
 use crate::reported::ReportedTables;
 use builtin_core::Builtins;
 use builtin_knowledge::{Knowledge, RootFiles};
 use engine_answers::Tables;
-use engine_courses::first_unknown;
+use engine_courses::{UnusedTally, first_unknown};
 use engine_ends::{Format, Line, Sink, Source, report_out_of_memory};
 use engine_formats::shown_in;
 use engine_reports::{
     Refusal, RulesRead, deliver_refusal, deliver_usage_error, open_rules, open_with_database,
 };
 use engine_sessions::{Answering, Telling, answer_after_messages, answer_and_tally};
-use engine_unused::UnusedTally;
 use hwdb_lookup::Lookup;
 use index_reading::{Index, IndexFault};
 use rule_types::Rule;

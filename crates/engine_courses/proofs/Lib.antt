@@ -7,3 +7,7 @@ pub mod Telling
 pub mod Reported
 pub mod MeantFiles
 pub mod Silent
+pub mod Noting
+pub mod Counting
+pub mod Greatest
+pub mod Own

@@ -7,7 +7,7 @@ use Rattle.text_links.specs.Kernels.{last_component}
 use Rattle.text_bytes.specs.Text.{Text}
 use Rattle.text_tables.specs.Texts.{same_text}
 use Rattle.engine_formats.specs.Near as near
-use Rattle.engine_courses.specs.Meant.{file_name, meant_by, meant_file, place_called, place_near}
+use Rattle.engine_courses.specs.Meant.{file_name, meant_file, place_called, place_near}
 use Rattle.engine_courses.specs.Named.{file_in}
 use Rattle.engine_courses.specs.Nearest.{Place}
 
@@ -50,6 +50,6 @@ pub meant_is_read : (text : Text) (places : List Place) → IfSome (meant_file t
 unfolding meant_file
 meant_is_read text places =
     let name = last_component (file_in text) in
-    unless_long places (nat_lt 255 (length name)) (meant_by places name)
+    unless_long places (nat_lt 255 (length name)) (option_or (place_called places name) (place_near places name))
     (either_is_read places (place_called places name) (place_near places name)
     (found_is_read (λ place. same_text (file_name place) name) places) (near_is_read places (near.nearest (map file_name places) name)))

@@ -12,13 +12,11 @@ use Rattle.engine_courses.specs.Named.{alike}
 use Rattle.engine_courses.specs.Meant.{meant_file}
 use Rattle.engine_courses.specs.Nearest.{Place, nearest}
 
--- whether a text is the name of a place's file, or `FILE:LINE`
-abbrev pub is_place : Text → Place → Bool
-is_place text place = same_text text place.0 || same_text text (place.0 ++ colon ∷ decimal place.1)
-
--- whether a text asks for a place, by its file's name as the two are compared
+-- whether a text asks for a place: it is the name of its file, or `FILE:LINE`, by the file's name as the two are compared
 abbrev pub asks : Text → Place → Bool
-asks text place = let both = alike text place.0 in is_place both.0 (both.1, place.1)
+asks text place =
+    let both = alike text place.0 in
+    same_text both.0 both.1 || same_text both.0 (both.1 ++ colon ∷ decimal place.1)
 
 -- whether one of the texts of `--why` asks for a line of a file
 abbrev pub is_asked : List Text → Text → ℕ → Bool
@@ -40,19 +38,11 @@ places_of messages rules = map (λ r. (r.file, r.line)) rules ++ map (λ m. (m.f
 abbrev pub is_known : List Place → Text → Bool
 is_known places text = list_any (asks text) places
 
--- a place as it is reported, `FILE:LINE`, with the file's name escaped
-abbrev pub place_text : Place → Text
-place_text place = escape_text place.0 ++ colon ∷ decimal place.1
-
--- the file that may be meant
-abbrev pub file_hint : Option Place → Text
-file_hint None = []
-file_hint (Some place) = codes ", the nearest is " ++ escape_text place.0
-
 -- what is missing: a rule, with the nearest place of the text's file, or such a file, with the one that may be meant
 abbrev pub missing : Option Place → (meant : Option Place) → Text
-missing None meant = codes "rules file" ++ file_hint meant
-missing (Some place) meant = codes "rule, the nearest is " ++ place_text place
+missing None None = codes "rules file"
+missing None (Some place) = codes "rules file, the nearest is " ++ escape_text place.0
+missing (Some place) meant = codes "rule, the nearest is " ++ escape_text place.0 ++ colon ∷ decimal place.1
 
 -- the line on a text that asks for nothing
 unfoldable pub unknown_line : List Place → Text → Text

@@ -1,5 +1,6 @@
--- Serves inner proofs only: the nearest place, one place after another, and what is reported moment by moment.
-use Rattle.std.specs.Prelude.{if◌then◌else◌, List, [], ◌∷◌, ◌++◌, Option, Some, None, flat_map, fold, refl}
+-- Serves inner proofs only: the nearest place, one place after another, what is reported moment by moment, the counts of
+-- rules after one more event for the rule at a place, and the line on the rule at a place.
+use Rattle.std.specs.Prelude.{ℕ, zero, suc, if◌then◌else◌, List, [], ◌∷◌, ◌++◌, Option, Some, None, flat_map, fold, refl}
 use Rattle.std.specs.Coded.{Coded, code_by, coded×, coded_list, coded_option, coded_ℕ}
 use Rattle.text_bytes.specs.Text.{Text}
 use Rattle.rule_types.specs.Rules.{Rule}
@@ -10,8 +11,11 @@ use Rattle.eval_effects.specs.Since.{Since, since_after}
 use Rattle.eval_rules.specs.Watched.{Happening, acted, assigned, entered, left, passed}
 use Rattle.eval_courses.specs.Acts.{act_met}
 use Rattle.eval_courses.specs.Inner.{moment_reports}
+use Rattle.eval_courses.specs.declared.fate.Fate.{Fate}
 use Rattle.engine_courses.specs.Asked.{is_asked}
 use Rattle.engine_courses.specs.Nearest.{Candidate, is_nearer}
+use Rattle.engine_courses.specs.Rows.{Row, with_fate}
+use Rattle.engine_courses.specs.Unused.{reported_line}
 use Rattle.engine_courses.specs.WhyLines.{jumping_after, passed_texts, reported_if_asked, rule_lines}
 
 -- the nearer of the nearest so far and one more
@@ -62,3 +66,16 @@ reporting w (left r reached) s = record w { since = since_after w.since r s.fina
 reporting w (acted r act went) s = with_texts w (act_met act s went ∷ [])
 reporting w (assigned r made) s = with_texts w (ending w.since r s ∷ [])
 reporting w happening s = with_texts w (moment_reports happening s)
+
+-- the counts of rules, with one more event for that at a place
+abbrev pub with_fate_at : List Row → ℕ → Fate → List Row
+with_fate_at [] place f = []
+with_fate_at (row ∷ rows) zero f = with_fate row f ∷ rows
+with_fate_at (row ∷ rows) (suc place) f = row ∷ with_fate_at rows place f
+
+-- the line on the rule at a place, by the counts at that place, if it is reported on
+abbrev pub line_at : List Text → List Rule → List Row → ℕ → Text
+line_at names [] rows place = []
+line_at names (r ∷ rs) [] place = []
+line_at names (r ∷ rs) (row ∷ rows) zero = reported_line names r row
+line_at names (r ∷ rs) (row ∷ rows) (suc place) = line_at names rs rows place

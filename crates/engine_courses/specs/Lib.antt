@@ -3,5 +3,8 @@ pub mod Nearest
 pub mod Meant
 pub mod Asked
 pub mod WhyLines
+pub mod Rows
+pub mod Unused
+pub mod UnusedLaws
 pub mod Inner
 pub mod Questions

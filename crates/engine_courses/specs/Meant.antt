@@ -20,13 +20,9 @@ place_called places name = find (λ place. same_text (file_name place) name) pla
 abbrev pub place_near : List Place → Text → Option Place
 place_near places name = option_and_then (place_called places) (near.nearest (map file_name places) name)
 
--- the first place of the file that a name may mean: of a file with this name in another folder, or of that with the nearest name
-abbrev pub meant_by : List Place → Text → Option Place
-meant_by places name = option_or (place_called places name) (place_near places name)
-
--- The first place of the file that a text may mean, by what follows the last slash of the file that it names. No file has
--- a name of more than 255 bytes.
+-- The first place of the file that a text may mean, by what follows the last slash of the file that it names: of a file with
+-- this name in another folder, or of that with the nearest name. No file has a name of more than 255 bytes.
 unfoldable pub meant_file : Text → List Place → Option Place
 meant_file text places =
     let name = last_component (file_in text) in
-    if nat_lt 255 (length name) then None else meant_by places name
+    if nat_lt 255 (length name) then None else option_or (place_called places name) (place_near places name)

@@ -1,5 +1,6 @@
 -- What a text of `--why` and the name of a file are compared as.
-use Rattle.std.specs.Prelude.{Bool, not, ◌-◌, ◌==◌, ◌&&◌, ◌||◌, if◌then◌else◌, is_some, length, position, take}
+use Rattle.std.specs.Prelude.{Bool, ◌-◌, ◌==◌, if◌then◌else◌, is_some, length, position, take}
+use Rattle.std.specs.Bool.{beq}
 use Rattle.std.specs.List.{suffix_len}
 use Rattle.text_bytes.specs.Names.{colon, slash}
 use Rattle.text_bytes.specs.Numbers.{is_digit}
@@ -11,20 +12,14 @@ use Rattle.text_bytes.specs.Text.{Text}
 abbrev pub has_folder : Text → Bool
 has_folder path = is_some (position (λ b. b == slash) path)
 
--- whether the first of two texts leads through a folder, and the second is a name alone
-abbrev pub is_beside_name : Text → Text → Bool
-is_beside_name path name = has_folder path && not (has_folder name)
-
 -- A text and the name of a file as they are compared: as they stand if both have folders or neither has, and otherwise by what
 -- follows the last slash. So a path names the file that is read under its name alone, and a name the one that is read by its path.
 unfoldable pub alike : Text → Text → Text × Text
 alike text file =
-    if is_beside_name text file || is_beside_name file text then (last_component text, last_component file) else (text, file)
-
--- a text without the digits at its end
-abbrev pub before_digits : Text → Text
-before_digits text = take (length text - suffix_len is_digit text) text
+    if beq (has_folder text) (has_folder file) then (text, file) else (last_component text, last_component file)
 
 -- the file that a text names: what comes before `:` and digits at its end, if it ends so, or else all of it
 abbrev pub file_in : Text → Text
-file_in text = let front = before_digits text in if ends_in colon front then without_last front else text
+file_in text =
+    let front = take (length text - suffix_len is_digit text) text in
+    if ends_in colon front then without_last front else text

@@ -18,13 +18,11 @@ Place = Text × ℕ
 abbrev pub line_number : Text → Option ℕ
 line_number digits = if is_decimal digits then Some (capped (decimal digits)) else None
 
--- the line of a file that a text asks for as `FILE:N`
-abbrev pub line_in : Text → Text → Option ℕ
-line_in file text = option_and_then line_number (option_and_then (following (colon ∷ [])) (following file text))
-
--- the line of a place's file that a text asks for, by the file's name as the two are compared
+-- the line of a place's file that a text asks for as `FILE:N`, by the file's name as the two are compared
 abbrev pub line_asked : Text → Place → Option ℕ
-line_asked text place = let both = alike text place.0 in line_in both.1 both.0
+line_asked text place =
+    let both = alike text place.0 in
+    option_and_then line_number (option_and_then (following (colon ∷ [])) (following both.1 both.0))
 
 -- how far the line of a place is from another one, and the place
 abbrev pub Candidate : Type 0

@@ -3,9 +3,9 @@ ghost use Rattle.std.specs.Prelude.{◌≡◌, ◌++◌, OnOk, map};
 ghost use Rattle.engine_courses.specs.Asked.{unread};
 ghost use Rattle.engine_courses.specs.WhyLines.{unread_lines, why_lines};
 
+use crate::asked::is_unread;
 use crate::lines::push_unread;
 use crate::reporting::reported_lines;
-use crate::unread::is_unread;
 use builtin_knowledge::Knowledge;
 use device_core::Event;
 use device_notes::tried;

@@ -1,6 +1,6 @@
 //! What a text of `--why` and the name of a file are compared as.
 ghost use Rattle.std.specs.Prelude.{◌≡◌};
-ghost use Rattle.engine_courses.specs.Named.{alike, before_digits, file_in, has_folder, is_beside_name};
+ghost use Rattle.engine_courses.specs.Named.{alike, file_in, has_folder};
 
 use text_bytes::{ends_in, find, without_last};
 use text_links::{last_component, trailing_digits};
@@ -21,40 +21,26 @@ fn has_folder(path: &[u8]) -> bool
     find(b'/', path).is_some()
 }
 
-/// Whether the first of two texts leads through a folder, and the second is a name alone.
-fn is_beside_name(path: &[u8], name: &[u8]) -> bool
-    ensures { result ≡ is_beside_name path.now name.now }
-{
-    has_folder(path) && !has_folder(name)
-}
-
 /// A text and the name of a file as they are compared: by what follows the last slash if only one of the two has one.
 #[tactic(auto, unfolding(crate::specs::Named::alike))]
 pub(crate) fn alike<'a, 'b>(text: &'a [u8], file: &'b [u8]) -> Names<'a, 'b>
     ensures { (result.text.now, result.file.now) ≡ alike text.entry.now file.entry.now }
 {
-    if is_beside_name(text, file) || is_beside_name(file, text) {
+    if has_folder(text) == has_folder(file) {
+        Names { text, file }
+    } else {
         Names {
             text: last_component(text),
             file: last_component(file),
         }
-    } else {
-        Names { text, file }
     }
-}
-
-/// A text without the digits at its end.
-fn before_digits(text: &[u8]) -> &[u8]
-    ensures { result.now ≡ before_digits text.now }
-{
-    text.split_at(text.len() - trailing_digits(text)).0
 }
 
 /// The file that a text names: what comes before `:` and digits at its end, if it ends so, or else all of it.
 pub(crate) fn file_in(text: &[u8]) -> &[u8]
     ensures { result.now ≡ file_in text.now }
 {
-    let front = before_digits(text);
+    let front = text.split_at(text.len() - trailing_digits(text)).0;
     if ends_in(b':', front) {
         without_last(front)
     } else {

@@ -1,7 +1,7 @@
 //! The place that is nearest to the line that a text asks for.
 ghost use Rattle.std.specs.Prelude.{◌≡◌, Some, option_map};
 ghost use Rattle.engine_courses.specs.Inner.{nearer};
-ghost use Rattle.engine_courses.specs.Nearest.{candidate_of, is_nearer, least, line_in, line_number, nearest};
+ghost use Rattle.engine_courses.specs.Nearest.{candidate_of, is_nearer, line_number, nearest};
 
 use crate::named::alike;
 use crate::places::Place;
@@ -23,15 +23,6 @@ impl<'a> Model for Candidate<'a> {
     ghost view = { λ c. (c.distance, c.place.now) };
 }
 
-impl<'a> Candidate<'a> {
-    /// The place.
-    fn place(&self) -> &'a Place<'a>
-        ensures { result.now ≡ self.now.1 }
-    {
-        self.place
-    }
-}
-
 /// The number of a line that decimal digits write.
 fn line_number(digits: &[u8]) -> Option<u32>
     ensures { result ≡ line_number digits.now }
@@ -45,21 +36,14 @@ fn line_number(digits: &[u8]) -> Option<u32>
     }
 }
 
-/// The line of a file that a text asks for as `FILE:N`.
-fn line_in(file: &[u8], text: &[u8]) -> Option<u32>
-    ensures { result ≡ line_in file.now text.now }
-{
-    line_number(following(b":", following(file, text)?)?)
-}
-
 /// A place with how far it is from the line of its file that a text asks for.
 fn candidate_of<'a>(text: &[u8], place: &'a Place<'a>) -> Option<Candidate<'a>>
     ensures { result ≡ candidate_of text.now place.now }
 {
-    let both = alike(text, place.file());
-    let line = line_in(both.file, both.text)?;
+    let both = alike(text, place.file);
+    let line = line_number(following(b":", following(both.file, both.text)?)?)?;
     Some(Candidate {
-        distance: line.abs_diff(place.line()),
+        distance: line.abs_diff(place.line),
         place,
     })
 }
@@ -68,7 +52,8 @@ fn candidate_of<'a>(text: &[u8], place: &'a Place<'a>) -> Option<Candidate<'a>>
 fn is_nearer(a: &Candidate<'_>, b: &Candidate<'_>) -> bool
     ensures { result ≡ is_nearer a.now b.now }
 {
-    a.distance < b.distance || (a.distance == b.distance && a.place.line() < b.place.line())
+    let (place, other) = (a.place, b.place);
+    a.distance < b.distance || (a.distance == b.distance && place.line < other.line)
 }
 
 /// The nearer of the nearest so far and one more; the nearest so far if that one is not nearer.
@@ -92,7 +77,7 @@ pub(crate) fn nearest<'a>(text: &[u8], places: &'a [Place<'a>]) -> Option<&'a Pl
         }
     }
     match best {
-        Some(found) => Some(found.place()),
+        Some(found) => Some(found.place),
         None => None,
     }
 }

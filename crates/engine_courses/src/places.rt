@@ -10,8 +10,10 @@ use std::marker::Model;
 /// A line of a file.
 #[derive(Drop)]
 pub(crate) struct Place<'a> {
-    file: &'a [u8],
-    line: u32,
+    /// The name of the file.
+    pub(crate) file: &'a [u8],
+    /// The number of the line.
+    pub(crate) line: u32,
 }
 
 impl<'a> Model for Place<'a> {
@@ -20,35 +22,6 @@ impl<'a> Model for Place<'a> {
     ghost Value = { nearest.Place };
 
     ghost view = { λ p. (p.file.now, p.line) };
-}
-
-impl<'a> Place<'a> {
-    /// The name of the file.
-    pub(crate) fn file(&self) -> &'a [u8]
-        ensures { result.now ≡ self.now.0 }
-    {
-        self.file
-    }
-
-    /// The number of the line.
-    pub(crate) fn line(&self) -> u32
-        ensures { result ≡ self.now.1 }
-    {
-        self.line
-    }
-}
-
-/// Adds the places of rules.
-fn push_rules<'a>(places: &mut Vec<Place<'a>>, rules: &'a [Rule]) -> Result<(), AllocError>
-    ensures { OnOk result (places.new.items ≡ places.old.items ++ map (λ r. (r.file, r.line)) rules.now) }
-{
-    for rule in rules {
-        places.push(Place {
-            file: rule.file(),
-            line: rule.line,
-        })?;
-    }
-    Ok(())
 }
 
 /// Adds the places of messages.
@@ -73,7 +46,12 @@ pub(crate) fn places_of<'a>(
     ensures { IfOk result (λ places. places.items ≡ places_of messages.now rules.now) }
 {
     let mut places = Vec::new(alloc);
-    push_rules(&mut places, rules)?;
+    for rule in rules {
+        places.push(Place {
+            file: rule.file(),
+            line: rule.line,
+        })?;
+    }
     push_messages(&mut places, messages)?;
     Ok(places)
 }

@@ -1,6 +1,6 @@
 //! What is said about a text of `--why` that asks for nothing.
-ghost use Rattle.std.specs.Prelude.{◌≡◌, ◌++◌, not, IfOk, OnOk, codes, find, map, option_map};
-ghost use Rattle.engine_courses.specs.Asked.{file_hint, is_known, missing, place_text, unknown, unknown_line};
+ghost use Rattle.std.specs.Prelude.{◌≡◌, ◌++◌, not, IfOk, OnOk, find, map, option_map};
+ghost use Rattle.engine_courses.specs.Asked.{is_known, missing, unknown, unknown_line};
 
 use crate::asked::is_known;
 use crate::meant::meant_file;
@@ -12,40 +12,6 @@ use rule_types::Rule;
 use std::alloc::{AllocError, Global};
 use text_bytes::{Bytes, escape};
 
-/// Appends a place, `FILE:LINE`, with the file's name escaped.
-fn push_place_alone(alloc: Global, line: &mut Vec<u8>, place: &Place<'_>) -> Result<(), AllocError>
-    ensures { OnOk result (line.new.items ≡ line.old.items ++ place_text place.now) }
-{
-    line.extend_from_slice(&escape(alloc, place.file())?)?;
-    line.push(b':')?;
-    line.extend_from_slice(Buffer::new().format(place.line()).as_bytes())
-}
-
-/// Appends that there is no such rule, with the nearest place.
-fn push_nearest(alloc: Global, line: &mut Vec<u8>, place: &Place<'_>) -> Result<(), AllocError>
-    ensures { OnOk result (line.new.items ≡ line.old.items ++ (codes "rule, the nearest is " ++ place_text place.now)) }
-{
-    line.extend_from_slice(b"rule, the nearest is ")?;
-    push_place_alone(alloc, line, place)
-}
-
-/// Appends the file that may be meant, if there is one.
-fn push_file_hint(
-    alloc: Global,
-    line: &mut Vec<u8>,
-    meant: Option<&Place<'_>>,
-) -> Result<(), AllocError>
-    ensures { OnOk result (line.new.items ≡ line.old.items ++ file_hint (option_map (λ p. p.now) meant.entry)) }
-{
-    match meant {
-        None => Ok(()),
-        Some(place) => {
-            line.extend_from_slice(b", the nearest is ")?;
-            line.extend_from_slice(&escape(alloc, place.file())?)
-        }
-    }
-}
-
 /// Appends what is missing: a rule, with the nearest place, or a file, with the one that may be meant.
 fn push_missing(
     alloc: Global,
@@ -56,13 +22,17 @@ fn push_missing(
     ensures { OnOk result (line.new.items
         ≡ line.old.items ++ missing (option_map (λ p. p.now) nearest.entry) (option_map (λ p. p.now) meant.entry)) }
 {
-    match nearest {
-        Some(place) => push_nearest(alloc, line, place),
-        None => {
-            line.extend_from_slice(b"rules file")?;
-            push_file_hint(alloc, line, meant)
-        }
+    if let Some(place) = nearest {
+        line.extend_from_slice(b"rule, the nearest is ")?;
+        line.extend_from_slice(&escape(alloc, place.file)?)?;
+        line.push(b':')?;
+        return line.extend_from_slice(Buffer::new().format(place.line).as_bytes());
     }
+    if let Some(place) = meant {
+        line.extend_from_slice(b"rules file, the nearest is ")?;
+        return line.extend_from_slice(&escape(alloc, place.file)?);
+    }
+    line.extend_from_slice(b"rules file")
 }
 
 /// The first text that asks for none of these places.

@@ -155,8 +155,8 @@ use Rattle.engine_sessions.specs.BlockFaults.{block_line, block_said}
 use Rattle.eval_courses.specs.Fates.{fate, fates_from, keys_reached}
 use Rattle.eval_unread.specs.Given.{first_looking, first_plain, first_up}
 use Rattle.eval_unread.specs.Unread.{rule_unread, rules_unread, unread_place}
-use Rattle.engine_unused.specs.Rows.{counted, with_fates}
-use Rattle.engine_unused.specs.Unused.{greatest, line_on, lines_by, unmet_text, unused_lines}
+use Rattle.engine_courses.specs.Rows.{counted, with_fates}
+use Rattle.engine_courses.specs.Unused.{greatest, line_on, lines_by, unmet_text, unused_lines}
 use Rattle.example_laws.specs.Answered.{answered_by, answered_by_links}
 use Rattle.example_laws.specs.Reported.{sourced, sourced_as_udev, explained, explained_as_udev, asked, asked_in_vain, told_as_object, told_people, unused_by, unused_with_added}
 

@@ -19,7 +19,7 @@ use Rattle.engine_json.specs.Answers.{json_answer}
 use Rattle.engine_ends.specs.Delivery.{RunOutcome}
 use Rattle.engine_sessions.specs.Outcomes.{input_outcome}
 use Rattle.engine_sessions.specs.Tallies.{events_of}
-use Rattle.engine_unused.specs.Unused.{unused_lines}
+use Rattle.engine_courses.specs.Unused.{unused_lines}
 use Rattle.example_laws.specs.Answered.{answer_to, file_with, only_entries, read_by}
 
 -- the answer to an event in which each line has its source

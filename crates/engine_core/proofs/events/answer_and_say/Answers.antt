@@ -1,7 +1,7 @@
 use Rattle.std.proofs.Common.{rules, ◌≡◌, true, false, map, refl, inl, inr, subst, sym, ◌∙◌}
 use Rattle.engine_sessions.proofs.Saying.{said_as}
-use Rattle.engine_unused.specs.Rows.{unreached}
-use Rattle.engine_unused.specs.Unused.{rules_named}
+use Rattle.engine_courses.specs.Rows.{unreached}
+use Rattle.engine_courses.specs.Unused.{rules_named}
 use Rattle.engine_core.proofs.Running.{tally_says}
 use Rattle.engine_core.proofs.events.answer_and_say.Goals as goal
 

@@ -1,4 +1,5 @@
 use Rattle.std.proofs.Common.{Some, option_map, ap, sym, ◌∙◌}
+use Rattle.engine_courses.specs.Nearest.{Candidate}
 use Rattle.engine_courses.proofs.Passing.{all_seen, one_more, with_next}
 use Rattle.engine_courses.proofs.nearest.nearest.Goals as goal
 use Rattle.engine_courses.proofs.nearest.nearest.Goals.{in-Some, in_default}
@@ -22,7 +23,7 @@ loop-place-preserved c =
 
 pub returns-in-Some-best : goal.returns-in-Some-best
 returns-in-Some-best c =
-    ap Some c.place.ensures
+    ap Some (ap (λ (near : Candidate). near.1) c.found.view_is)
     ∙ ap (option_map (λ found. found.1)) (sym c.in-Some-best.is ∙ c.loop-place.invariant)
     ∙ all_seen c.args.text.now c.args.places.now c.loop-place.place-index c.loop-place-test.false
 

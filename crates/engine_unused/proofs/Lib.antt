@@ -1,4 +1,0 @@
-pub mod Noting
-pub mod Counting
-pub mod Greatest
-pub mod Own

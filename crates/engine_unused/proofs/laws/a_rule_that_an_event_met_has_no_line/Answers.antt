@@ -1,5 +1,0 @@
-use Rattle.engine_unused.proofs.Counting.{met_none}
-use Rattle.engine_unused.proofs.laws.a_rule_that_an_event_met_has_no_line.Goals as goal
-
-pub returns : goal.returns
-returns c = met_none

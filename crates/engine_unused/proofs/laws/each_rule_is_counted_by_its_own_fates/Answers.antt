@@ -1,5 +1,0 @@
-use Rattle.engine_unused.proofs.Own.{own_fates}
-use Rattle.engine_unused.proofs.laws.each_rule_is_counted_by_its_own_fates.Goals as goal
-
-pub returns : goal.returns
-returns c = own_fates

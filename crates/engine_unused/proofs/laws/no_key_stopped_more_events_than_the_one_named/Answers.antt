@@ -1,5 +1,0 @@
-use Rattle.engine_unused.proofs.Greatest.{first_is, most_is, named_is}
-use Rattle.engine_unused.proofs.laws.no_key_stopped_more_events_than_the_one_named.Goals as goal
-
-pub returns : goal.returns
-returns c = record { most = most_is; named = named_is; first = first_is }

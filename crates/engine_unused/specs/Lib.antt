@@ -1,4 +1,0 @@
-pub mod Rows
-pub mod Unused
-pub mod Inner
-pub mod Laws

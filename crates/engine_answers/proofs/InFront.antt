@@ -1,11 +1,12 @@
 -- The lines of properties one by one, and with nothing in front of them.
-use Rattle.std.proofs.Common.{◌≡◌, Bool, true, false, not, cond, List, [], ◌∷◌, ◌++◌, codes, filter, flat_map, map, refl, ap, ap₂, sym, ◌∙◌, append-nil, append_assoc}
+use Rattle.std.proofs.Common.{◌≡◌, Bool, true, false, true≢false, is_some, Option, Some, None, option_map, not, cond, List, [], ◌∷◌, ◌++◌, codes, filter, flat_map, map, refl, ap, ap₂, sym, ◌∙◌, append-nil, append_assoc}
 use Rattle.std.proofs.lemmas.List.Concat.{flat_map-append, flat_map-cons}
 use Rattle.text_bytes.specs.Text.{Text}
 use Rattle.text_tables.specs.Pairs.{Pair}
 use Rattle.eval_effects.specs.Items.{item_name}
+use Rattle.eval_sources.specs.Sources.{Held}
 use Rattle.engine_answers.specs.Answers.{lines_after}
-use Rattle.engine_answers.specs.Inner.{shown_line}
+use Rattle.engine_answers.specs.Inner.{front_of, shown_line}
 use Rattle.engine_answers.specs.Items.{ItemLine, env_lines, value_lines}
 use Rattle.engine_answers.specs.Lines.{is_hidden, pair_line}
 
@@ -16,6 +17,11 @@ value pair = ((item_name (codes "env") pair.0, pair.1), pair_line (codes "env") 
 -- the properties that have a line
 abbrev shown : List Pair → List Pair
 shown pairs = filter (λ pair. not (is_hidden pair.0)) pairs
+
+-- nothing is in front of a line if no sources are asked for
+pub nothing_in_front : {A : Type 0} (held_by : A → Held) (sources : Option A) → is_some sources ≡ false → (item : Pair) → front_of (option_map held_by sources) item ≡ []
+nothing_in_front held_by None h item = refl
+nothing_in_front held_by (Some held) h item = absurd (true≢false h)
 
 -- a line about one thing, after what is in front of it
 pub one_after : {A : Type 0} (front : A → Text) (first next now said : Text) (about : A) → next ≡ first ++ front about → now ≡ next ++ said → now ≡ first ++ lines_after front ((about, said) ∷ [])

@@ -1,9 +1,16 @@
--- Serves inner proofs only: lines before it is known whether something in them has to be escaped.
-use Rattle.std.specs.Prelude.{ℕ, [], ◌∷◌, ◌++◌, List, codes, cond, count_by, flat_map, not}
+-- Serves inner proofs only: what is in front of lines, and lines before it is known whether something in them has to be escaped.
+use Rattle.std.specs.Prelude.{ℕ, [], ◌∷◌, ◌++◌, List, Option, Some, None, codes, cond, count_by, flat_map, not}
 use Rattle.text_bytes.specs.Names.{space, equals, newline}
 use Rattle.text_bytes.specs.Text.{Text}
 use Rattle.text_tables.specs.Pairs.{Pair}
+use Rattle.eval_sources.specs.Sources.{Held, source_in}
+use Rattle.engine_answers.specs.Answers.{source_part}
 use Rattle.engine_answers.specs.Lines.{is_hidden, pair_line}
+
+-- what is in front of the line about an item: where it comes from, by what is kept for each, or nothing
+abbrev pub front_of : Option Held → Pair → Text
+front_of None = λ item. []
+front_of (Some held) = λ item. source_part (source_in held None item)
 
 -- a word, a name and its value, as they are
 abbrev pub pair_words : Text → Text → Text → Text

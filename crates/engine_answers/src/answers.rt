@@ -5,7 +5,7 @@ ghost use Rattle.engine_answers.specs.Lines.{block_note_line, block_note_lines, 
 ghost use Rattle.eval_sources.specs.Sources.{source_in};
 ghost use Rattle.eval_unread.specs.Others.{ask_others};
 
-use crate::front::{Nothing, push_source};
+use crate::front::push_source;
 use crate::items::push_items;
 use crate::lines::{push_block_note, push_note, push_run};
 use crate::whole_sources::evaluate_whole_sources;
@@ -39,7 +39,7 @@ pub fn answer_lines(
 {
     let mut lines = Vec::with_capacity(alloc, USUAL_LEN)?;
     push_event(alloc, &mut lines, event.action(), event.device().path())?;
-    push_items(alloc, &mut lines, &Nothing, event.profile(), outcome)?;
+    push_items(alloc, &mut lines, None, event.profile(), outcome)?;
     push_runs(alloc, &mut lines, &outcome.runs)?;
     push_block_notes(alloc, &mut lines, event)?;
     push_notes(alloc, &mut lines, &outcome.notes)?;
@@ -102,7 +102,13 @@ fn lines_of(alloc: Global, event: &Event<'_>, found: &Sourced<'_>) -> Result<Vec
     let mut lines = Vec::new(alloc);
     let outcome = &found.outcome;
     push_event(alloc, &mut lines, event.action(), event.device().path())?;
-    push_items(alloc, &mut lines, &found.sources, event.profile(), outcome)?;
+    push_items(
+        alloc,
+        &mut lines,
+        Some(&found.sources),
+        event.profile(),
+        outcome,
+    )?;
     push_sourced_runs(alloc, &mut lines, &found.commands)?;
     push_block_notes(alloc, &mut lines, event)?;
     push_notes(alloc, &mut lines, &outcome.notes)?;

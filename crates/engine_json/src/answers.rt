@@ -1,24 +1,23 @@
 //! The whole answer.
-ghost use Rattle.std.specs.Prelude.{◌≡◌, ◌++◌, ◌∷◌, [], codes, map, None, IfOk, OnOk};
+ghost use Rattle.std.specs.Prelude.{◌≡◌, ◌++◌, ◌∷◌, [], codes, IfOk, OnOk, option_map};
 ghost use Rattle.json.specs.Tree.{json_tokens};
-ghost use Rattle.text_json.specs.Listed.{member_tokens};
+ghost use Rattle.text_json.specs.Listed.{member_tokens, value_tokens};
 ghost use Rattle.text_json.specs.Told.{told};
 ghost use Rattle.text_json.specs.Values.{array_of, object_of, value_line};
-ghost use Rattle.eval_sources.specs.Sources.{source_in};
 ghost use Rattle.eval_unread.specs.Others.{ask_others};
 ghost use Rattle.eval_unread.specs.Unread.{whole_outcome};
 ghost use Rattle.engine_json.specs.Answers.{answer_members, json_answer, json_by, plain_object, sourced_object};
-ghost use Rattle.engine_json.specs.Members.{item_members, note_values, run_value, sourced, sourced_runs, why_values};
+ghost use Rattle.engine_json.specs.Inner.{runs_of, shape_of};
+ghost use Rattle.engine_json.specs.Members.{item_members, note_values, why_values};
 
 use crate::items::write_items;
-use crate::shape::{AsIs, Shape};
 use crate::values::{write_notes, write_runs, write_sourced_runs, write_why};
 use builtin_knowledge::Knowledge;
 use device_core::Event;
 use device_notes::lacks_event;
 use engine_answers::evaluate_whole_sources;
 use eval_rules::{Commands, Outcome};
-use eval_sources::{Sourced, SourcedCommand};
+use eval_sources::{Sourced, SourcedCommand, Sources};
 use eval_state::Notes;
 use eval_unread::evaluate_whole;
 use json::Writer;
@@ -28,48 +27,56 @@ use text_bytes::Bytes;
 use text_json::write_told;
 
 /// Writes what comes before the commands: what happened to which device, and the items.
-fn write_start<S: Shape>(
+fn write_start(
     alloc: Global,
     writer: &mut Writer,
-    shape: &S,
+    sources: Option<&Sources<'_>>,
     event: &Event<'_>,
     outcome: &Outcome<'_>,
 ) -> Result<(), AllocError>
     ensures tokens { OnOk result (writer.new.tokens ≡ writer.old.tokens
         ++ member_tokens (((codes "event", told event.now.action) ∷ (codes "path", told event.now.device.path) ∷ [])
-        ++ item_members (S.shape shape.now) event.now.profile outcome.now)) }
+        ++ item_members (shape_of (option_map (λ s. s.now) sources.entry)) event.now.profile outcome.now)) }
     ensures before { OnOk result (writer.new.before ≡ writer.old.before) }
 {
     write_told(alloc, writer, "event", event.action())?;
     write_told(alloc, writer, "path", event.device().path())?;
-    write_items(alloc, writer, shape, event.profile(), outcome)?;
+    write_items(alloc, writer, sources, event.profile(), outcome)?;
     Ok(())
+}
+
+/// The commands of an answer.
+#[derive(Clone, Copy)]
+enum Runs<'r, 'a> {
+    /// Alone.
+    Alone(&'r Commands),
+    /// Each with the rule that added it.
+    Sourced(&'r [SourcedCommand<'a>]),
+}
+
+/// Writes the commands one after another.
+fn write_each_run(alloc: Global, writer: &mut Writer, runs: Runs<'_, '_>) -> Result<(), AllocError>
+    ensures tokens { OnOk result (writer.new.tokens ≡ writer.old.tokens ++ value_tokens (runs_of runs.entry)) }
+    ensures before { OnOk result (writer.new.before ≡ writer.old.before) }
+{
+    match runs {
+        Runs::Alone(runs) => write_runs(alloc, writer, runs),
+        Runs::Sourced(commands) => write_sourced_runs(alloc, writer, commands),
+    }
 }
 
 /// Writes the member with the commands.
-fn write_run_member(alloc: Global, writer: &mut Writer, runs: &Commands) -> Result<(), AllocError>
-    ensures tokens { OnOk result (writer.new.tokens ≡ writer.old.tokens ++ member_tokens ((codes "run", array_of (map run_value runs.now)) ∷ [])) }
-    ensures before { OnOk result (writer.new.before ≡ writer.old.before) }
-{
-    writer.key("run")?;
-    writer.begin_array()?;
-    write_runs(alloc, writer, runs)?;
-    writer.end_array()?;
-    Ok(())
-}
-
-/// Writes the member with the commands, each with the rule that added it.
-fn write_sourced_run_member(
+fn write_run_member(
     alloc: Global,
     writer: &mut Writer,
-    commands: &[SourcedCommand<'_>],
+    runs: Runs<'_, '_>,
 ) -> Result<(), AllocError>
-    ensures tokens { OnOk result (writer.new.tokens ≡ writer.old.tokens ++ member_tokens ((codes "run", array_of (sourced_runs commands.now)) ∷ [])) }
+    ensures tokens { OnOk result (writer.new.tokens ≡ writer.old.tokens ++ member_tokens ((codes "run", array_of (runs_of runs.entry)) ∷ [])) }
     ensures before { OnOk result (writer.new.before ≡ writer.old.before) }
 {
     writer.key("run")?;
     writer.begin_array()?;
-    write_sourced_runs(alloc, writer, commands)?;
+    write_each_run(alloc, writer, runs)?;
     writer.end_array()?;
     Ok(())
 }
@@ -103,78 +110,44 @@ fn write_why_member(alloc: Global, writer: &mut Writer, why: &[u8]) -> Result<()
     Ok(())
 }
 
-/// Writes the object of an event with its outcome.
-fn write_plain(
+/// Writes the object of an event with its outcome, with `sources` each value with the rule that it comes from.
+fn write_object(
     alloc: Global,
     writer: &mut Writer,
+    sources: Option<&Sources<'_>>,
+    runs: Runs<'_, '_>,
     why: &[u8],
     event: &Event<'_>,
     outcome: &Outcome<'_>,
-) -> Result<(), AllocError>
-    ensures tokens { OnOk result (writer.new.tokens ≡ writer.old.tokens ++ json_tokens (plain_object why.now event.now outcome.now)) }
-    ensures before { OnOk result (writer.new.before ≡ writer.old.before) }
-{
-    writer.begin_object()?;
-    write_start(alloc, writer, &AsIs, event, outcome)?;
-    write_run_member(alloc, writer, &outcome.runs)?;
-    write_note_member(alloc, writer, event, &outcome.notes)?;
-    write_why_member(alloc, writer, why)?;
-    writer.end_object()?;
-    Ok(())
-}
-
-/// The line of an event with its outcome.
-#[tactic(auto, unfolding(text_json::specs::Values::value_line))]
-fn plain_line(
-    alloc: Global,
-    why: &[u8],
-    event: &Event<'_>,
-    outcome: &Outcome<'_>,
-) -> Result<Vec<u8>, AllocError>
-    ensures { IfOk result (λ text. text.items ≡ value_line (plain_object why.now event.now outcome.now)) }
-{
-    let mut writer = Writer::new(Vec::new(alloc));
-    write_plain(alloc, &mut writer, why, event, outcome)?;
-    let mut text = writer.into_inner();
-    text.push(b'\n')?;
-    Ok(text)
-}
-
-/// Writes the object of an event with its outcome, each value with where it comes from.
-fn write_sourced(
-    alloc: Global,
-    writer: &mut Writer,
-    why: &[u8],
-    event: &Event<'_>,
-    found: &Sourced<'_>,
 ) -> Result<(), AllocError>
     ensures tokens { OnOk result (writer.new.tokens ≡ writer.old.tokens ++ json_tokens (object_of (answer_members
-        (λ item value. sourced (source_in found.now.sources None item) value) (sourced_runs found.now.commands.items) why.now event.now found.now.outcome))) }
+        (shape_of (option_map (λ s. s.now) sources.entry)) (runs_of runs.entry) why.now event.now outcome.now))) }
     ensures before { OnOk result (writer.new.before ≡ writer.old.before) }
 {
-    let outcome = &found.outcome;
     writer.begin_object()?;
-    write_start(alloc, writer, &found.sources, event, outcome)?;
-    write_sourced_run_member(alloc, writer, &found.commands)?;
+    write_start(alloc, writer, sources, event, outcome)?;
+    write_run_member(alloc, writer, runs)?;
     write_note_member(alloc, writer, event, &outcome.notes)?;
     write_why_member(alloc, writer, why)?;
     writer.end_object()?;
     Ok(())
 }
 
-/// The line of an event with its outcome, each value with where it comes from.
+/// The line with that object.
 #[tactic(auto, unfolding(text_json::specs::Values::value_line))]
-fn sourced_line(
+fn object_line(
     alloc: Global,
+    sources: Option<&Sources<'_>>,
+    runs: Runs<'_, '_>,
     why: &[u8],
     event: &Event<'_>,
-    found: &Sourced<'_>,
+    outcome: &Outcome<'_>,
 ) -> Result<Vec<u8>, AllocError>
     ensures { IfOk result (λ text. text.items ≡ value_line (object_of (answer_members
-        (λ item value. sourced (source_in found.now.sources None item) value) (sourced_runs found.now.commands.items) why.now event.now found.now.outcome))) }
+        (shape_of (option_map (λ s. s.now) sources.entry)) (runs_of runs.entry) why.now event.now outcome.now))) }
 {
     let mut writer = Writer::new(Vec::new(alloc));
-    write_sourced(alloc, &mut writer, why, event, found)?;
+    write_object(alloc, &mut writer, sources, runs, why, event, outcome)?;
     let mut text = writer.into_inner();
     text.push(b'\n')?;
     Ok(text)
@@ -193,7 +166,9 @@ fn sourced_answer<'a, K: Knowledge>(
     ensures { IfOk result (λ text. text.items ≡ value_line (sourced_object why.now rules.now (K.known knowledge.now) event.now)) }
 {
     let found = evaluate_whole_sources(alloc, asks, rules, event, knowledge)?;
-    let said = sourced_line(alloc, why, event, &found);
+    let sources = Some(&found.sources);
+    let runs = Runs::Sourced(&found.commands);
+    let said = object_line(alloc, sources, runs, why, event, &found.outcome);
     drop(found);
     said
 }
@@ -211,7 +186,8 @@ fn plain_answer<K: Knowledge>(
     ensures { IfOk result (λ text. text.items ≡ value_line (plain_object why.now event.now (whole_outcome rules.now (K.known knowledge.now) event.now))) }
 {
     let outcome = evaluate_whole(alloc, asks, rules, event, knowledge)?;
-    let said = plain_line(alloc, why, event, &outcome);
+    let runs = Runs::Alone(&outcome.runs);
+    let said = object_line(alloc, None, runs, why, event, &outcome);
     drop(outcome);
     said
 }

@@ -1,14 +1,14 @@
-use Rattle.std.proofs.Common.{codes, map}
+use Rattle.std.proofs.Common.{codes}
 use Rattle.text_json.proofs.Listed.{array_after}
-use Rattle.engine_json.specs.Members.{run_value}
+use Rattle.engine_json.specs.Inner.{runs_of}
 use Rattle.engine_json.proofs.answers.write_run_member.Goals as goal
 
 pub returns-clause-tokens : goal.returns-clause-tokens
 returns-clause-tokens c =
     rw (
       c.in_ok-end_array.ensures.ok,
-      c.in_ok-write_runs.ensures.tokens,
+      c.in_ok-write_each_run.ensures.tokens,
       c.in_ok-begin_array.ensures.ok,
       c.in_ok-key.ensures.ok,
     )
-    (array_after c.args.writer.now.tokens (codes "run") (map run_value c.args.runs.now))
+    (array_after c.args.writer.now.tokens (codes "run") (runs_of c.args.runs))

@@ -1,10 +1,11 @@
-use Rattle.std.proofs.Common.{[], ap, sym, ◌∙◌, ◌++◌, arith, drop, ◌+◌}
+use Rattle.std.proofs.Common.{[], ap, sym, ◌∙◌, ◌++◌, arith, drop, ◌+◌, option_map}
 use Rattle.engine_json.proofs.EnvMembers.{each_env, env_one, one_on}
+use Rattle.engine_json.specs.Inner.{shape_of}
 use Rattle.engine_json.proofs.items.write_each_env.Goals as goal
 
 pub loop-place-preserved : goal.loop-place-preserved
-loop-place-preserved g c =
-    let shape = g.S.Shape.shape c.args.shape.now in
+loop-place-preserved c =
+    let shape = shape_of (option_map (λ s. s.now) c.args.sources) in
     record {
       tokens =
           ap (λ ts. c.write_shown.new.writer.tokens ++ ts) (each_env shape (drop (c.loop-place.place + 1) c.args.pairs.now))

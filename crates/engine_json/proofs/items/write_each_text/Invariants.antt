@@ -1,10 +1,11 @@
-use Rattle.std.proofs.Common.{◌≡◌, ◌++◌, map, take}
+use Rattle.std.proofs.Common.{◌≡◌, ◌++◌, map, take, option_map}
 use Rattle.text_json.specs.Listed.{value_tokens}
 use Rattle.engine_json.specs.Members.{text_values}
+use Rattle.engine_json.specs.Inner.{shape_of}
 use Rattle.engine_json.proofs.items.write_each_text.Given as goal
 
 abbrev pub invariant-loop-text : goal.invariant-loop-text
-invariant-loop-text g l = record {
-  tokens : l.writer.tokens ≡ l.initial.writer.tokens ++ value_tokens (text_values (g.S.Shape.shape l.shape) l.word (map (λ t. t.items) (take l.text-index l.text-items)));
+invariant-loop-text l = record {
+  tokens : l.writer.tokens ≡ l.initial.writer.tokens ++ value_tokens (text_values (shape_of (option_map (λ s. s.now) l.sources)) l.word (map (λ t. t.items) (take l.text-index l.text-items)));
   before : l.writer.before ≡ l.initial.writer.before;
 }

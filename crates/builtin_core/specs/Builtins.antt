@@ -1,10 +1,10 @@
 -- What evaluating rules asks beyond the event, by the entries of a hardware database, the .link files and files of the root.
 use Rattle.std.specs.Prelude.{Bool, List}
 use Rattle.text_tables.specs.Pairs.{Pair, value_of}
-use Rattle.hwdb_lookup.specs.declared.entry.Entry.{Entry}
+use Rattle.trie_nodes.specs.declared.entry.Entry.{Entry}
 use Rattle.device_core.specs.Values.{EventValue}
 use Rattle.builtin_core.specs.Needs.{input_needs, net_needs, path_needs, usb_needs}
-use Rattle.builtin_knowledge.specs.Knowledge.{FilesFound, Known}
+use Rattle.builtin_devices.specs.Knowledge.{FilesFound, Known}
 use Rattle.builtin_devices.specs.Outcomes.{OutcomeValue, needing_first}
 use Rattle.link_files.specs.Files.{LinkFileValue}
 use Rattle.builtin_input.specs.Input.{input_id}

@@ -6,7 +6,7 @@ use Rattle.std.specs.Option.{option_map_or}
 use Rattle.text_bytes.specs.Text.{Text}
 use Rattle.text_tables.specs.Texts.{same_text}
 use Rattle.text_tables.specs.Pairs.{value_of}
-use Rattle.text_links.specs.Kernels.{last_component}
+use Rattle.text_bytes.specs.Kernels.{last_component}
 use Rattle.device_core.specs.Values.{DeviceValue, EventValue, chain}
 use Rattle.builtin_devices.specs.Devices.{attribute, device_by, is_text, type_of}
 use Rattle.builtin_devices.specs.Files.{described_devices, file_at}

@@ -4,7 +4,7 @@ use Rattle.std.specs.Prelude.{Option, Some, None, if◌then◌else◌}
 use Rattle.std.specs.List.{range_with_len}
 use Rattle.text_bytes.specs.Names.{slash}
 use Rattle.text_bytes.specs.Text.{Text}
-use Rattle.text_links.specs.Kernels.{last_component}
+use Rattle.text_bytes.specs.Kernels.{last_component}
 use Rattle.builtin_core.specs.Kinds.{kind_of}
 use Rattle.builtin_core.specs.declared.kinds.Kind.{Kind}
 use Rattle.builtin_core.specs.declared.kinds.Kind.TheVariants.{UsbDevice}

@@ -3,19 +3,18 @@ ghost use Rattle.std.specs.Prelude.{◌≡◌};
 ghost use Rattle.builtin_core.specs.Builtins.{known_by};
 
 use crate::needs::{input_needs, net_needs, path_needs, usb_needs};
-use builtin_devices::{BuiltinOutcome, NetNames};
+use builtin_devices::{BuiltinOutcome, Knowledge, NetNames, RootFile, RootFiles};
 use builtin_input::input_id;
-use builtin_knowledge::{Knowledge, RootFile, RootFiles};
 use builtin_link::net_setup_link;
 use builtin_net::net_id;
 use builtin_path::path_id;
 use builtin_usb::usb_id;
 use device_core::Event;
-use hwdb_lookup::Lookup;
 use link_files::LinkFile;
 use std::alloc::{AllocError, Global};
 use std::marker::Model;
 use text_tables::CowPairs;
+use trie_nodes::Lookup;
 
 /// The builtins of udev over a hardware database and `.link` files, and what was found at paths of the root.
 #[derive(Drop)]

@@ -11,7 +11,7 @@ use crate::virtual_functions::need_physical;
 use builtin_devices::{Devices, attribute, is_text, type_of};
 use device_core::{Device, Event};
 use std::alloc::{AllocError, Global};
-use text_links::last_component;
+use text_bytes::last_component;
 use text_tables::OwnedTexts;
 
 /// Whether the block gives a device with a path, and its subsystem.

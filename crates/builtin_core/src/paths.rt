@@ -4,7 +4,7 @@ ghost use Rattle.builtin_core.specs.Paths.{ends_at, is_usb, kind_at, shown_befor
 
 use crate::kinds::{Kind, kind_of};
 use std::alloc::{AllocError, Global};
-use text_links::last_component;
+use text_bytes::last_component;
 
 /// Whether a component of a path ends at a place.
 fn ends_at(path: &[u8], place: usize) -> bool

@@ -9,7 +9,7 @@ use Rattle.text_bytes.specs.Text.{Text}
 use Rattle.text_tables.specs.Texts.{same_text}
 use Rattle.text_tables.specs.Pairs.{value_of}
 use Rattle.device_core.specs.Values.{DeviceValue, EventValue, chain}
-use Rattle.text_links.specs.Kernels.{kernel_name}
+use Rattle.text_bytes.specs.Kernels.{kernel_name}
 use Rattle.builtin_devices.specs.Files.{described_devices}
 
 -- the kernel's name of a device

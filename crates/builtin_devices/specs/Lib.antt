@@ -1,3 +1,4 @@
+pub mod Knowledge
 pub mod Outcomes
 pub mod Fields
 pub mod Files

@@ -10,7 +10,7 @@ use Rattle.text_bytes.specs.Numbers.{is_digit}
 use Rattle.text_bytes.specs.Texts.{begins_with, is_empty, skip_while}
 use Rattle.text_bytes.specs.Text.{Text}
 use Rattle.text_tables.specs.Texts.{same_text}
-use Rattle.text_links.specs.Kernels.{longest_end}
+use Rattle.text_bytes.specs.Kernels.{longest_end}
 use Rattle.builtin_devices.specs.declared.numbers.Base.{Base}
 use Rattle.builtin_devices.specs.declared.numbers.Base.TheVariants.{AsWritten, Decimal, Hexadecimal}
 

@@ -8,8 +8,7 @@ ghost use Rattle.builtin_devices.specs.Numbers.{name_number, number_in, size_in,
 
 use hex::{FromHexError, decode};
 use std::alloc::{AllocError, Global};
-use text_bytes::{begins_with, is_whitespace};
-use text_links::last_digits;
+use text_bytes::{begins_with, is_whitespace, last_digits};
 
 /// The base in which a number is written.
 #[derive(Clone, Copy)]

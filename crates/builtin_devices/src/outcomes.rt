@@ -6,8 +6,7 @@ ghost use Rattle.builtin_devices.specs.Outcomes.{failing, lacking, needing_first
 use device_core::{Device, Event};
 use std::alloc::{AllocError, Global};
 use std::marker::Model;
-use text_bytes::Bytes;
-use text_links::last_component;
+use text_bytes::{Bytes, last_component};
 use text_tables::OwnedTexts;
 
 /// The outcome of a builtin of udev: whether it succeeds, the properties in the order in which it sets them, where

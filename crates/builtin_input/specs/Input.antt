@@ -6,7 +6,7 @@ use Rattle.text_bytes.specs.Texts.{is_empty}
 use Rattle.text_bytes.specs.Text.{Text}
 use Rattle.text_tables.specs.Pairs.{Pair, value_of}
 use Rattle.device_core.specs.Values.{DeviceValue, EventValue, chain}
-use Rattle.text_links.specs.Kernels.{longest_end}
+use Rattle.text_bytes.specs.Kernels.{longest_end}
 use Rattle.builtin_devices.specs.Devices.{is_text, kernel_of}
 use Rattle.builtin_devices.specs.Outcomes.{OutcomeValue, lacking, needs_of, succeeding, word_about}
 use Rattle.builtin_input.specs.Capabilities.{CapabilitiesValue, capabilities}

@@ -14,8 +14,7 @@ use crate::kinds::Kind;
 use builtin_devices::{BuiltinOutcome, add_property, is_text, need_attribute, word_about};
 use device_core::{Device, Event};
 use std::alloc::{AllocError, Global};
-use text_bytes::Bytes;
-use text_links::{kernel_name, last_digits};
+use text_bytes::{Bytes, kernel_name, last_digits};
 use text_tables::OwnedTexts;
 
 /// The attributes that each input device has.

@@ -5,7 +5,7 @@ use Rattle.std.specs.List.{list_all, list_any}
 use Rattle.text_bytes.specs.Texts.{is_empty}
 use Rattle.text_bytes.specs.Text.{Text}
 use Rattle.text_tables.specs.Pairs.{Pair, value_of}
-use Rattle.text_links.specs.Kernels.{kernel_name}
+use Rattle.text_bytes.specs.Kernels.{kernel_name}
 use Rattle.device_core.specs.Values.{EventValue}
 use Rattle.builtin_devices.specs.Devices.{attribute, some_text}
 use Rattle.builtin_devices.specs.Numbers.{is_number}

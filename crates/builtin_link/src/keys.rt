@@ -1,6 +1,6 @@
 //! What the keys of `[Match]` say about an interface.
 ghost use Rattle.std.specs.Prelude.{◌≡◌, ◌++◌, IfOk, OnOk, Some, codes, map, option_map};
-ghost use Rattle.text_links.specs.Kernels.{kernel_name};
+ghost use Rattle.text_bytes.specs.Kernels.{kernel_name};
 ghost use Rattle.text_tables.specs.Pairs.{value_of};
 ghost use Rattle.builtin_devices.specs.Devices.{attribute};
 ghost use Rattle.link_files.specs.Lists.{list_of};
@@ -20,7 +20,7 @@ use builtin_devices::{attribute, is_number};
 use device_core::Event;
 use link_files::{MATCH, Setting, WordKind, last_of, list_of};
 use std::alloc::{AllocError, Global};
-use text_links::kernel_name;
+use text_bytes::kernel_name;
 use text_tables::CowPairs;
 
 /// The conditions on the machine, by their keys.

@@ -14,8 +14,9 @@ use crate::words::{MAX_NUMBER, is_printable, joined, push_number};
 use builtin_devices::{Base, Devices, is_of, name_number, number_in, some_text};
 use device_core::{Device, Event};
 use std::alloc::{AllocError, Global};
-use text_bytes::{begins_with, decimal_below, following, is_hexadecimal, small, split_once};
-use text_links::kernel_name;
+use text_bytes::{
+    begins_with, decimal_below, following, is_hexadecimal, kernel_name, small, split_once,
+};
 use text_tables::CowPairs;
 
 /// The device right above the event device.

@@ -12,8 +12,7 @@ use crate::usb::{bcma_suffix, usb_suffix};
 use builtin_devices::Devices;
 use device_core::Device;
 use std::alloc::{AllocError, Global};
-use text_bytes::Bytes;
-use text_links::kernel_name;
+use text_bytes::{Bytes, kernel_name};
 use text_tables::CowPairs;
 
 /// A bus with devices that carry interfaces.

@@ -10,8 +10,7 @@ use builtin_devices::{Base, bytes_of, file_at, number_in};
 use device_core::{Device, Event};
 use link_files::is_yes;
 use std::alloc::{AllocError, Global};
-use text_bytes::split_once;
-use text_links::kernel_name;
+use text_bytes::{kernel_name, split_once};
 
 /// Where the type of the header is in a configuration.
 const HEADER_PLACE: usize = 14;

@@ -20,8 +20,7 @@ use crate::words::{MAX_NUMBER, positive};
 use builtin_devices::{Base, Devices, file_at, files_below, is_number, is_of, number_in};
 use device_core::{Device, Event};
 use std::alloc::{AllocError, Global};
-use text_bytes::{is_hexadecimal, split_once};
-use text_links::kernel_name;
+use text_bytes::{is_hexadecimal, kernel_name, split_once};
 use text_tables::OwnedTexts;
 
 /// The folder of all slots of the bus.

@@ -5,7 +5,7 @@ use Rattle.std.specs.List.{join_with_byte}
 use Rattle.std.proofs.lemmas.List.{append_cancel_left, append_cancel_right, length-take}
 use Rattle.text_bytes.specs.Names.{underscore}
 use Rattle.text_bytes.specs.Texts.{ends_in}
-use Rattle.text_links.specs.Underscores.{underscored}
+use Rattle.text_bytes.specs.Underscores.{underscored}
 use Rattle.text_tables.specs.Pairs.{Pair}
 use Rattle.text_bytes.specs.Text.{Text}
 use Rattle.device_core.specs.Values.{EventValue}

@@ -1,11 +1,12 @@
 -- The devices that the way up passes, and what it asks of them.
-use Rattle.std.specs.Prelude.{ℕ, ◌+◌, ◌-◌, not, Bool, List, [], ◌∷◌, codes, length, drop, take, nat_eq, Option, slice_get}
-use Rattle.std.specs.List.{concat, prefix_len, starts_with}
+use Rattle.std.specs.Prelude.{ℕ, ◌==◌, ◌+◌, ◌-◌, not, Bool, List, [], ◌∷◌, codes, length, drop, take, nat_eq, Option, Some, slice_get}
+use Rattle.std.specs.List.{concat, prefix_len, starts_with, suffix_len}
 use Rattle.std.specs.Option.{option_and_then}
+use Rattle.text_bytes.specs.Names.{slash}
 use Rattle.text_bytes.specs.Text.{Text}
 use Rattle.device_core.specs.Values.{DeviceValue}
-use Rattle.text_links.specs.Kernels.{last_component}
-use Rattle.builtin_devices.specs.Devices.{attribute, is_text}
+use Rattle.text_bytes.specs.Kernels.{last_component}
+use Rattle.builtin_devices.specs.Devices.{attribute, is_of, is_text}
 
 -- whether a device is of a subsystem
 abbrev pub is_in : Text → DeviceValue → Bool
@@ -15,13 +16,17 @@ is_in subsystem m = is_text subsystem m.subsystem
 abbrev pub row : Text → List DeviceValue → ℕ
 row subsystem members = prefix_len (is_in subsystem) members
 
--- the devices from the nearest on that passes a test
-abbrev pub from_first : (DeviceValue → Bool) → List DeviceValue → List DeviceValue
-from_first test members = drop (prefix_len (λ m. not (test m)) members) members
+-- how many devices are below the nearest one of SCSI that is of a type; all if there is none
+abbrev pub below_first : (kind : Text) → List DeviceValue → ℕ
+below_first kind members = prefix_len (λ m. not (is_of (codes "scsi") (Some kind) m)) members
+
+-- the devices from that one on
+abbrev pub from_first : (kind : Text) → List DeviceValue → List DeviceValue
+from_first kind members = drop (below_first kind members) members
 
 -- the folder that a path is in
 abbrev pub folder : Text → Text
-folder path = take (length path - (length (last_component path) + 1)) path
+folder path = take (length path - (suffix_len (λ b. not (b == slash)) path + 1)) path
 
 -- the attribute of the device of a class that has this device's name and is directly below it
 unfoldable pub class_attribute : (class name : Text) → DeviceValue → Option Text

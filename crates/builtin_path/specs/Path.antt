@@ -1,12 +1,13 @@
 -- path_id: what is made from the parts.
-use Rattle.std.specs.Prelude.{ℕ, ◌+◌, ◌-◌, Bool, false, true, not, ◌&&◌, ◌||◌, ◌==◌, List, [], ◌∷◌, ◌++◌, codes, drop, filter_map, flat_map}
-use Rattle.std.specs.Prelude.{if◌then◌else◌, is_none, is_some, length, map, Option, Some, None, reverse, slice_index, take}
+use Rattle.std.specs.Prelude.{ℕ, ◌+◌, Bool, false, true, not, ◌&&◌, ◌||◌, ◌==◌, List, [], ◌∷◌, ◌++◌, codes, drop, filter_map, flat_map}
+use Rattle.std.specs.Prelude.{if◌then◌else◌, is_none, is_some, map, option_and_then, Option, Some, None, reverse, slice_index, take}
 use Rattle.std.specs.Char.{is_ascii_alphanumeric}
 use Rattle.std.specs.List.{join_with_byte, list_any, prefix_len}
+use Rattle.std.specs.Option.{option_map_or}
 use Rattle.text_bytes.specs.Names.{minus, space, underscore}
 use Rattle.text_bytes.specs.Numbers.{is_digit}
-use Rattle.text_bytes.specs.Texts.{ends_in}
-use Rattle.text_links.specs.Underscores.{underscored}
+use Rattle.text_bytes.specs.Texts.{ends_in, without_last}
+use Rattle.text_bytes.specs.Underscores.{underscored}
 use Rattle.text_tables.specs.Pairs.{Pair}
 use Rattle.text_bytes.specs.Text.{Text}
 use Rattle.text_tables.specs.Texts.{with_texts}
@@ -61,50 +62,29 @@ is_whole event stops =
     not (list_any (λ s. is_failing s.next) stops) && list_any (λ s. is_some s.part) stops && list_any (λ s. s.parent) stops
     && is_reached event stops
 
--- whether a digit and `-` follow the `-usbv` at a place
-abbrev pub is_revision : Text → ℕ → Bool
-is_revision text place = is_digit (slice_index text (place + 5)) && slice_index text (place + 6) == minus
-
--- a place of `-usbv`, if a digit and `-` follow there
-abbrev pub if_revision : Text → Option ℕ → Option ℕ
-if_revision text None = None
-if_revision text (Some place) = if is_revision text place then Some place else None
-
 -- the place of the revision in a text: that of the first `-usbv`, if a digit and `-` follow
 unfoldable pub revision_place : Text → Option ℕ
-revision_place text = if_revision text (first_place (codes "-usbv") text)
-
--- a text without the `v` and the digit there
-unfoldable pub without_revision : Text → ℕ → Text
-without_revision text place = take (place + 4) text ++ drop (place + 6) text
+revision_place text =
+    option_and_then (λ place. if is_digit (slice_index text (place + 5)) && slice_index text (place + 6) == minus then Some place else None)
+    (first_place (codes "-usbv") text)
 
 -- a byte for a tag: letters and digits of ASCII and `-` stay, and any other is a space
 abbrev pub tag_byte : ℕ → ℕ
 tag_byte b = if is_ascii_alphanumeric b || b == minus then b else space
 
--- the first 511 bytes of a text, without a `_` at their end
-abbrev pub cut_tag : Text → Text
-cut_tag text =
-    let tag = take 511 text in
-    if ends_in underscore tag then take (length tag - 1) tag else tag
-
 -- a text as a tag: runs of other bytes are one `_` each, with none at the ends, of at most 511 bytes
 unfoldable pub tag : Text → Text
-tag text = cut_tag (underscored (map tag_byte text))
+tag text =
+    let cut = take 511 (underscored (map tag_byte text)) in
+    if ends_in underscore cut then without_last cut else cut
 
--- a text without its revision of USB
-abbrev pub plain_path : Text → Option ℕ → Text
-plain_path text None = text
-plain_path text (Some place) = without_revision text place
+-- a text without its revision of USB: without the `v` and the digit there
+abbrev pub plain_path : Text → Text
+plain_path text = option_map_or (λ place. take (place + 4) text ++ drop (place + 6) text) (revision_place text) text
 
--- what is set for a text that has a revision, and for one without it
-abbrev pub revision_pairs : Text → Option ℕ → List Pair
-revision_pairs text None = []
-revision_pairs text (Some place) = (codes "ID_PATH_WITH_USB_REVISION", text) ∷ []
-
--- the path and its tag
-abbrev pub path_pairs : Text → List Pair
-path_pairs path = (codes "ID_PATH", path) ∷ (codes "ID_PATH_TAG", tag path) ∷ []
+-- what is set for a text that has a revision
+abbrev pub revision_pairs : Text → List Pair
+revision_pairs text = option_map_or (λ place. (codes "ID_PATH_WITH_USB_REVISION", text) ∷ []) (revision_place text) []
 
 -- the compatible path, if it has a part
 abbrev pub compatible_pairs : List Text → List Pair
@@ -115,8 +95,8 @@ compatible_pairs (part ∷ parts) = (codes "ID_PATH_ATA_COMPAT", join_with_byte 
 unfoldable pub properties_of : List Stop → List Pair
 properties_of stops =
     let text = join_with_byte minus (parts stops) in
-    let place = revision_place text in
-    revision_pairs text place ++ path_pairs (plain_path text place) ++ compatible_pairs (compatible_parts stops)
+    let path = plain_path text in
+    revision_pairs text ++ (codes "ID_PATH", path) ∷ (codes "ID_PATH_TAG", tag path) ∷ [] ++ compatible_pairs (compatible_parts stops)
 
 -- whether a device of usb or scsi has no type, though each of these has one
 abbrev pub lacks_type : DeviceValue → Bool

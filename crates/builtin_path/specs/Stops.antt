@@ -4,7 +4,7 @@ use Rattle.text_bytes.specs.Text.{Text}
 use Rattle.device_core.specs.Values.{DeviceValue}
 use Rattle.builtin_path.specs.declared.stops.Next.{Next}
 use Rattle.builtin_path.specs.declared.stops.Next.TheVariants.{On, Ends, Fails}
-use Rattle.builtin_path.specs.declared.stops.Share.TheVariants.{Apart, Both}
+use Rattle.builtin_path.specs.declared.stops.Share.TheVariants.{Apart}
 use Rattle.builtin_path.specs.declared.stops.Stop.{Stop}
 
 -- how many of the devices above one are skipped: all if the way ends
@@ -29,7 +29,3 @@ ending transport parent needs = record { part = None; share = Apart; transport =
 -- a device that adds a part, above which so many devices are skipped
 abbrev pub adding : (part : Text) → (transport parent : Bool) → ℕ → Stop
 adding part transport parent count = record { part = Some part; share = Apart; transport = transport; parent = parent; needs = []; next = On count }
-
--- a device whose part also counts for the compatible path
-abbrev pub adding_both : (part : Text) → (transport : Bool) → ℕ → Stop
-adding_both part transport count = record { part = Some part; share = Both; transport = transport; parent = true; needs = []; next = On count }

@@ -1,13 +1,11 @@
 -- The way up from the event device: which devices it passes, and what they add.
-use Rattle.std.specs.Prelude.{ℕ, zero, suc, ◌+◌, Bool, false, not, ◌||◌, List, [], ◌∷◌, ◌++◌, codes, is_some, Option}
-use Rattle.std.specs.Prelude.{Some, None, slice_get, take}
+use Rattle.std.specs.Prelude.{ℕ, zero, suc, ◌+◌, Bool, false, not, ◌||◌, List, [], ◌∷◌, ◌++◌, codes, if◌then◌else◌, is_some, None, Option, slice_get, take}
 use Rattle.std.specs.List.{prefix_len}
-use Rattle.std.specs.Option.{option_and_then}
-use Rattle.text_bytes.specs.Text.{Text}
+use Rattle.std.specs.Option.{option_and_then, option_map_or}
 use Rattle.device_core.specs.Values.{DeviceValue, EventValue}
-use Rattle.builtin_devices.specs.Devices.{parents_of}
+use Rattle.builtin_devices.specs.Devices.{attribute, parents_of}
 use Rattle.builtin_path.specs.Members.{is_in}
-use Rattle.builtin_path.specs.Nvme.{controller, namespace}
+use Rattle.builtin_path.specs.Nvme.{controller}
 use Rattle.builtin_path.specs.Stops.{passed}
 use Rattle.builtin_path.specs.Table.{stop}
 use Rattle.builtin_path.specs.declared.stops.Stop.{Stop}
@@ -20,21 +18,18 @@ from_device event device = device ∷ parents_of event device.path
 abbrev pub below_subsystem : List DeviceValue → ℕ
 below_subsystem members = prefix_len (λ m. not (is_in (codes "nvme-subsystem") m)) members
 
--- the controller by which a disk of several ways is reached
-abbrev pub way_by : EventValue → List DeviceValue → (nsid : Option Text) → Option DeviceValue
-way_by event members None = None
-way_by event members (Some nsid) = option_and_then (controller event) (slice_get members (below_subsystem members))
-
--- devices up to the first NVMe subsystem, then the controller and the devices above that; all of them if there is no
--- controller
-abbrev pub with_controller : EventValue → List DeviceValue → Option DeviceValue → List DeviceValue
-with_controller event members None = members
-with_controller event members (Some device) = take (below_subsystem members + 1) members ++ from_device event device
+-- the controller by which a disk of several ways is reached; only a disk of NVMe has a namespace
+abbrev pub way_by : EventValue → List DeviceValue → Option DeviceValue
+way_by event members =
+    if is_some (attribute event.device (codes "nsid")) then option_and_then (controller event) (slice_get members (below_subsystem members))
+    else None
 
 -- the devices of the way: the event device and those above it; for a disk of several ways, what is above its NVMe
--- subsystem are the controller and the devices above that
+-- subsystem, the first one, are the controller and the devices above that; all of them if there is no controller
 unfoldable pub members_of : EventValue → List DeviceValue
-members_of event = let members = from_device event event.device in with_controller event members (way_by event members (namespace event))
+members_of event =
+    let members = from_device event event.device in
+    option_map_or (λ device. take (below_subsystem members + 1) members ++ from_device event device) (way_by event members) members
 
 -- what the devices add, from the first on after so many that are skipped
 abbrev pub stops_from : EventValue → (is_begun : Bool) → ℕ → List DeviceValue → List Stop

@@ -1,17 +1,15 @@
 //! The devices that the way up passes, and what it asks of them.
 ghost use Rattle.std.specs.Prelude.{◌≡◌, ◌∷◌, ◌≤◌, IfOk, Some, length, not, option_map};
 ghost use Rattle.std.specs.List.{prefix_len};
-ghost use Rattle.text_links.specs.Kernels.{kernel_name, last_component};
-ghost use Rattle.builtin_devices.specs.Devices.{attribute, is_of};
-ghost use Rattle.builtin_path.specs.Members.{attribute_at, begins, class_attribute, class_attribute_at, folder, from_first, is_in, row};
+ghost use Rattle.text_bytes.specs.Kernels.{last_component};
+ghost use Rattle.builtin_path.specs.Members.{attribute_at, below_first, class_attribute, class_attribute_at, from_first, is_in, row};
 
 use crate::texts::concatenated;
-use builtin_devices::{is_of, is_text};
+use builtin_devices::{attribute, is_of, is_text};
 use device_core::Device;
 use std::alloc::{AllocError, Global};
 use std::marker::Model;
-use text_bytes::Bytes;
-use text_links::last_component_len;
+use text_bytes::last_component;
 
 /// A device of the way.
 #[derive(Drop)]
@@ -28,23 +26,6 @@ impl<'d> Model for Member<'d> {
     ghost view = { λ m. m.device.now };
 }
 
-/// What follows the last slash of a path.
-pub(crate) fn last_component(path: &[u8]) -> &[u8]
-    ensures value { result.now ≡ last_component path.now }
-    ensures within { length result.now ≤ length path.now }
-{
-    path.split_at(path.len() - last_component_len(path)).1
-}
-
-/// The folder that a path is in.
-pub(crate) fn folder(path: &[u8]) -> &[u8]
-    ensures { result.now ≡ folder path.now }
-{
-    let component = last_component(path);
-    path.split_at(path.len().saturating_sub(component.len() + 1))
-        .0
-}
-
 impl<'d> Member<'d> {
     /// Whether it is of a subsystem.
     pub(crate) fn is_in(&self, subsystem: &[u8]) -> bool
@@ -53,25 +34,11 @@ impl<'d> Member<'d> {
         is_text(subsystem, self.device.subsystem())
     }
 
-    /// Whether it is of a subsystem and a type.
-    pub(crate) fn is_of(&self, subsystem: &[u8], kind: &[u8]) -> bool
-        ensures { result ≡ is_of subsystem.now (Some kind.now) self.now }
-    {
-        is_of(subsystem, Some(kind), self.device)
-    }
-
     /// What follows the last slash of its path: its name, as the kernel writes it in paths.
     pub(crate) fn component(&self) -> &'d [u8]
         ensures { result.now ≡ last_component self.now.path }
     {
         last_component(self.device.path())
-    }
-
-    /// An attribute.
-    pub(crate) fn attribute(&self, name: &[u8]) -> Option<&'d [u8]>
-        ensures { option_map (λ t. t.now) result ≡ attribute self.now name.now }
-    {
-        self.device.attrs().get(name)
     }
 
     /// The attribute of the device of a class that has its name and is directly below it.
@@ -85,7 +52,7 @@ impl<'d> Member<'d> {
         ensures { IfOk result (λ text. option_map (λ t. t.now) text ≡ class_attribute class.now name.now self.now) }
     {
         let path = concatenated(alloc, &[class, b"/", self.component(), b"/", name])?;
-        Ok(self.attribute(path.as_slice()))
+        Ok(attribute(self.device, path.as_slice()))
     }
 }
 
@@ -100,26 +67,22 @@ pub(crate) fn row(subsystem: &[u8], members: &[Member<'_>]) -> usize
         .count()
 }
 
-/// How many devices a list begins with that are not of a subsystem and a type.
-pub(crate) fn below_first(subsystem: &[u8], kind: &[u8], members: &[Member<'_>]) -> usize
-    ensures value { result ≡ prefix_len (λ m. not (is_of subsystem.now (Some kind.now) m)) members.now }
+/// How many devices a list begins with that are not one of SCSI of a type.
+pub(crate) fn below_first(kind: &[u8], members: &[Member<'_>]) -> usize
+    ensures value { result ≡ below_first kind.now members.now }
     ensures within { result ≤ length members.now }
 {
     members
         .iter()
-        .take_while(|member| !member.is_of(subsystem, kind))
+        .take_while(|member| !is_of(b"scsi", Some(kind), member.device))
         .count()
 }
 
-/// The devices from the nearest on that is of a subsystem and a type.
-pub(crate) fn from_first<'m, 'd>(
-    subsystem: &[u8],
-    kind: &[u8],
-    members: &'m [Member<'d>],
-) -> &'m [Member<'d>]
-    ensures { result.now ≡ from_first (is_of subsystem.now (Some kind.now)) members.now }
+/// The devices from the nearest on that is one of SCSI of a type.
+pub(crate) fn from_first<'m, 'd>(kind: &[u8], members: &'m [Member<'d>]) -> &'m [Member<'d>]
+    ensures { result.now ≡ from_first kind.now members.now }
 {
-    members.split_at(below_first(subsystem, kind, members)).1
+    members.split_at(below_first(kind, members)).1
 }
 
 /// The attribute of the device of a class at a place of a list, if there is one.
@@ -147,7 +110,7 @@ pub(crate) fn attribute_at<'d>(
     ensures { option_map (λ t. t.now) result ≡ attribute_at members.now place name.now }
 {
     match members.get(place) {
-        Some(member) => member.attribute(name),
+        Some(member) => attribute(member.device, name),
         None => None,
     }
 }

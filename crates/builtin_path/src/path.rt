@@ -1,13 +1,12 @@
 //! path_id: what is made from the parts.
-ghost use Rattle.std.specs.Prelude.{◌≡◌, ◌++◌, ◌+◌, ◌≤◌, IfOk, IfSome, OnOk, not, filter_map, length, map, option_map, is_some, reverse, ◌<◌};
-ghost use Rattle.std.specs.List.{join_with_byte, list_any, prefix_len};
-ghost use Rattle.text_bytes.specs.Names.{minus};
+ghost use Rattle.std.specs.Prelude.{◌≡◌, ◌++◌, ◌≤◌, IfOk, OnOk, filter_map, is_some, length, map, not, option_map, reverse};
+ghost use Rattle.std.specs.List.{list_any, prefix_len};
 ghost use Rattle.text_tables.specs.Texts.{with_texts};
-ghost use Rattle.builtin_path.specs.Path.{compatible_pairs, compatible_parts, is_ata, is_failing, is_reached, is_whole, lacks_type, needs, parts};
-ghost use Rattle.builtin_path.specs.Path.{path_id, path_pairs, plain_path, properties_of, revision_pairs, shared, type_needs};
+ghost use Rattle.builtin_path.specs.Path.{compatible_pairs, compatible_parts, is_ata, is_failing, is_reached, is_whole, lacks_type, needs, path_id, properties_of};
+ghost use Rattle.builtin_path.specs.Path.{shared, type_needs};
 
 use crate::members::Member;
-use crate::revisions::{revision_place, without_revision};
+use crate::revisions::plain_path;
 use crate::stops::{Next, Share, Stop, needed};
 use crate::tags::tag;
 use crate::texts::joined;
@@ -92,7 +91,7 @@ fn below_ata(stops: &[Stop]) -> usize
     stops.iter().take_while(|stop| !is_ata(&stop.share)).count()
 }
 
-/// The parts of the compatible path, the highest first.
+/// The parts of the compatible path, the highest first: those from the first port of ATA up.
 fn compatible_parts(alloc: Global, stops: &[Stop]) -> Result<Vec<&[u8]>, AllocError>
     ensures { IfOk result (λ found. map (λ t. t.now) found.items ≡ compatible_parts stops.now) }
 {
@@ -153,45 +152,6 @@ fn is_whole(event: &Event<'_>, stops: &[Stop]) -> bool
     !has_failing(stops) && has_part(stops) && has_parent(stops) && is_reached(event, stops)
 }
 
-/// Adds what is set for a path without a revision.
-fn add_path(
-    alloc: Global,
-    path: &[u8],
-    properties: &mut Vec<(Bytes, Bytes)>,
-) -> Result<(), AllocError>
-    ensures { OnOk result (properties.new.items ≡ properties.old.items ++ path_pairs path.now) }
-{
-    add_property(alloc, b"ID_PATH", path, properties)?;
-    let tag = tag(alloc, path)?;
-    add_property(alloc, b"ID_PATH_TAG", tag.as_slice(), properties)
-}
-
-/// Adds what is set for a text that has the revision of USB at a place, if it has one.
-fn add_revision(
-    alloc: Global,
-    text: &[u8],
-    place: Option<usize>,
-    properties: &mut Vec<(Bytes, Bytes)>,
-) -> Result<(), AllocError>
-    ensures { OnOk result (properties.new.items ≡ properties.old.items ++ revision_pairs text.now place) }
-{
-    match place {
-        Some(_) => add_property(alloc, b"ID_PATH_WITH_USB_REVISION", text, properties),
-        None => Ok(()),
-    }
-}
-
-/// A text without its revision of USB, which is at a place, if there is one.
-fn plain_path(alloc: Global, text: &[u8], place: Option<usize>) -> Result<Bytes, AllocError>
-    requires { IfSome place (λ at. at < length text.now) }
-    ensures { IfOk result (λ path. path ≡ plain_path text.now place) }
-{
-    match place {
-        Some(place) => without_revision(alloc, text, place),
-        None => Bytes::copy_of(alloc, text),
-    }
-}
-
 /// Adds the compatible path, if there is one.
 fn add_compatible(
     alloc: Global,
@@ -208,25 +168,18 @@ fn add_compatible(
     add_property(alloc, b"ID_PATH_ATA_COMPAT", text.as_slice(), properties)
 }
 
-/// The parts that stops add, joined.
-fn path_text(alloc: Global, stops: &[Stop]) -> Result<Bytes, AllocError>
-    ensures { IfOk result (λ text. text ≡ join_with_byte minus (parts stops.now)) }
-{
-    let parts = reversed(parts_up(alloc, stops)?);
-    joined(alloc, &parts)
-}
-
 /// What path_id sets for stops.
 #[tactic(auto, unfolding(crate::specs::Path::properties_of))]
 fn properties_of(alloc: Global, stops: &[Stop]) -> Result<Vec<(Bytes, Bytes)>, AllocError>
     ensures { IfOk result (λ properties. properties.items ≡ properties_of stops.now) }
 {
     let mut properties = Vec::new(alloc);
-    let text = path_text(alloc, stops)?;
-    let place = revision_place(text.as_slice());
-    let path = plain_path(alloc, text.as_slice(), place)?;
-    add_revision(alloc, text.as_slice(), place, &mut properties)?;
-    add_path(alloc, path.as_slice(), &mut properties)?;
+    let parts = reversed(parts_up(alloc, stops)?);
+    let text = joined(alloc, &parts)?;
+    let path = plain_path(alloc, text.as_slice(), &mut properties)?;
+    let tag = tag(alloc, path.as_slice())?;
+    add_property(alloc, b"ID_PATH", path.as_slice(), &mut properties)?;
+    add_property(alloc, b"ID_PATH_TAG", tag.as_slice(), &mut properties)?;
     add_compatible(alloc, stops, &mut properties)?;
     Ok(properties)
 }
@@ -238,7 +191,7 @@ fn lacks_type(member: &Member<'_>) -> bool
     (member.is_in(b"usb") || member.is_in(b"scsi")) && type_of(member.device).is_none()
 }
 
-/// Whether a device of usb or scsi has no type, though each of these has one.
+/// Whether there is such a device.
 fn has_untyped(members: &[Member<'_>]) -> bool
     ensures { result ≡ list_any lacks_type members.now }
 {

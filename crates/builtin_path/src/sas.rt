@@ -1,9 +1,9 @@
 //! What a disk of SAS adds.
-ghost use Rattle.std.specs.Prelude.{◌≡◌, ◌-◌, ◌^◌, IfOk, option_and_then, option_copied, option_map};
-ghost use Rattle.builtin_devices.specs.Numbers.{number_in};
-ghost use Rattle.builtin_devices.specs.declared.numbers.Base.TheVariants.{AsWritten};
-ghost use Rattle.builtin_path.specs.Scsi.{counted_stop, expander_needs, expander_start, expander_stop, narrow_stop, phy_part, phy_stop, phys_stop};
-ghost use Rattle.builtin_path.specs.Scsi.{sas_by, sas_stop, wide_stop};
+ghost use Rattle.std.specs.Prelude.{◌≡◌, [], IfOk, codes, if◌then◌else◌, option_map, true};
+ghost use Rattle.text_bytes.specs.Kernels.{last_component};
+ghost use Rattle.builtin_path.specs.Members.{begins};
+ghost use Rattle.builtin_path.specs.Stops.{absent, adding};
+ghost use Rattle.builtin_path.specs.Scsi.{expander_stop, narrow_stop, phy_part, sas_stop, wide_stop};
 
 use crate::members::{Member, class_attribute_at, from_first};
 use crate::scsi::unit_text;
@@ -14,46 +14,19 @@ use std::alloc::{AllocError, Global};
 use text_bytes::Bytes;
 use text_tables::OwnedTexts;
 
-/// What a disk of SAS at a port of several phys adds.
-fn wide_stop(alloc: Global, member: &Member<'_>, sas: Option<&[u8]>) -> Result<Stop, AllocError>
-    ensures { IfOk result (λ stop. stop ≡ wide_stop member.now (option_map (λ t. t.now) sas.entry)) }
+/// What a disk of SAS at a port of several phys adds, by the devices from the target on.
+fn wide_stop(alloc: Global, member: &Member<'_>, devices: &[Member<'_>]) -> Result<Stop, AllocError>
+    ensures { IfOk result (λ stop. stop ≡ wide_stop member.now devices.now) }
 {
-    match sas {
-        None => lost(alloc, b"sas_address", true),
-        Some(sas) => {
-            let unit = unit_text(alloc, member)?;
-            let part = concatenated(alloc, &[b"sas-", sas, b"-", unit.as_slice()])?;
-            Ok(Stop::adding(alloc, part, true, true, 0))
-        }
-    }
+    let Some(sas) = class_attribute_at(alloc, devices, 1, b"sas_device", b"sas_address")? else {
+        return lost(alloc, b"sas_address", true);
+    };
+    let unit = unit_text(alloc, member)?;
+    let part = concatenated(alloc, &[b"sas-", sas, b"-", unit.as_slice()])?;
+    Ok(Stop::adding(alloc, part, true, true, 0))
 }
 
-/// How the part of a disk at one phy begins.
-fn expander_start(alloc: Global, sas: Option<&[u8]>) -> Result<Bytes, AllocError>
-    ensures { IfOk result (λ start. start ≡ expander_start (option_map (λ t. t.now) sas.entry)) }
-{
-    match sas {
-        None => Bytes::copy_of(alloc, b"sas-"),
-        Some(sas) => concatenated(alloc, &[b"sas-exp", sas, b"-"]),
-    }
-}
-
-/// What the block would have to report about an expander.
-fn expander_needs(
-    alloc: Global,
-    expander: &Member<'_>,
-    sas: Option<&[u8]>,
-) -> Result<OwnedTexts, AllocError>
-    ensures { IfOk result (λ needs. needs ≡ expander_needs expander.now (option_map (λ t. t.now) sas.entry)) }
-{
-    if expander.component().starts_with(b"expander") {
-        absent(alloc, b"sas_address", sas)
-    } else {
-        Ok(OwnedTexts::new(alloc))
-    }
-}
-
-/// The part of a disk of SAS at one phy.
+/// The part of a disk of SAS at one phy, by the address of what is above its port, if that is an expander.
 fn phy_part(
     alloc: Global,
     member: &Member<'_>,
@@ -62,23 +35,44 @@ fn phy_part(
 ) -> Result<Bytes, AllocError>
     ensures { IfOk result (λ part. part ≡ phy_part member.now phy.now (option_map (λ t. t.now) sas.entry)) }
 {
-    let start = expander_start(alloc, sas)?;
     let unit = unit_text(alloc, member)?;
-    concatenated(
-        alloc,
-        &[start.as_slice(), b"phy", phy, b"-", unit.as_slice()],
-    )
+    match sas {
+        None => concatenated(alloc, &[b"sas-phy", phy, b"-", unit.as_slice()]),
+        Some(sas) => concatenated(
+            alloc,
+            &[b"sas-exp", sas, b"-phy", phy, b"-", unit.as_slice()],
+        ),
+    }
+}
+
+/// What the block would have to report about an expander: its address.
+fn expander_needs(
+    alloc: Global,
+    expander: &Member<'_>,
+    sas: Option<&[u8]>,
+) -> Result<OwnedTexts, AllocError>
+    ensures { IfOk result (λ needs. needs
+        ≡ (if begins (codes "expander") (last_component expander.now.path) then absent (codes "sas_address") (option_map (λ t. t.now) sas.entry) else [])) }
+{
+    if expander.component().starts_with(b"expander") {
+        absent(alloc, b"sas_address", sas)
+    } else {
+        Ok(OwnedTexts::new(alloc))
+    }
 }
 
 /// What a disk of SAS at one phy adds, by what is above its port and the address of that, if it is an expander.
-fn expander_stop(
+fn addressed_stop(
     alloc: Global,
     member: &Member<'_>,
     phy: &[u8],
     expander: &Member<'_>,
     sas: Option<&[u8]>,
 ) -> Result<Stop, AllocError>
-    ensures { IfOk result (λ stop. stop ≡ expander_stop member.now phy.now expander.now (option_map (λ t. t.now) sas.entry)) }
+    ensures { IfOk result (λ stop. stop
+        ≡ record (adding (phy_part member.now phy.now (option_map (λ t. t.now) sas.entry)) true true 0) {
+          needs = if begins (codes "expander") (last_component expander.now.path) then absent (codes "sas_address") (option_map (λ t. t.now) sas.entry) else [];
+        }) }
 {
     let needs = expander_needs(alloc, expander, sas)?;
     let part = phy_part(alloc, member, phy, sas)?;
@@ -88,80 +82,36 @@ fn expander_stop(
 }
 
 /// What a disk of SAS at one phy adds, by what is above its port.
-fn phy_stop(
+fn expander_stop(
     alloc: Global,
     member: &Member<'_>,
     phy: &[u8],
-    above_port: Option<&Member<'_>>,
+    expander: &Member<'_>,
 ) -> Result<Stop, AllocError>
-    ensures { IfOk result (λ stop. stop ≡ phy_stop member.now phy.now (option_copied above_port.entry)) }
+    ensures { IfOk result (λ stop. stop ≡ expander_stop member.now phy.now expander.now) }
 {
-    match above_port {
-        Some(expander) => {
-            let sas = expander.class_attribute(alloc, b"sas_device", b"sas_address")?;
-            expander_stop(alloc, member, phy, expander, sas)
-        }
+    let sas = expander.class_attribute(alloc, b"sas_device", b"sas_address")?;
+    addressed_stop(alloc, member, phy, expander, sas)
+}
+
+/// What a disk of SAS at one phy adds, by the devices from the target on.
+fn narrow_stop(
+    alloc: Global,
+    member: &Member<'_>,
+    devices: &[Member<'_>],
+) -> Result<Stop, AllocError>
+    ensures { IfOk result (λ stop. stop ≡ narrow_stop member.now devices.now) }
+{
+    let Some(phy) = class_attribute_at(alloc, devices, 1, b"sas_device", b"phy_identifier")? else {
+        return lost(alloc, b"phy_identifier", true);
+    };
+    match devices.get(3) {
+        Some(expander) => expander_stop(alloc, member, phy, expander),
         None => Ok(Stop::ending(true, true, OwnedTexts::new(alloc))),
     }
 }
 
-/// What a disk of SAS at one phy adds.
-fn narrow_stop(
-    alloc: Global,
-    member: &Member<'_>,
-    phy: Option<&[u8]>,
-    above_port: Option<&Member<'_>>,
-) -> Result<Stop, AllocError>
-    ensures { IfOk result (λ stop. stop ≡ narrow_stop member.now (option_map (λ t. t.now) phy.entry) (option_copied above_port.entry)) }
-{
-    match phy {
-        None => lost(alloc, b"phy_identifier", true),
-        Some(phy) => phy_stop(alloc, member, phy, above_port),
-    }
-}
-
-/// What a disk of SAS adds, by the devices from the target on and how many phys its port has.
-fn counted_stop(
-    alloc: Global,
-    member: &Member<'_>,
-    devices: &[Member<'_>],
-    count: u64,
-) -> Result<Stop, AllocError>
-    ensures { IfOk result (λ stop. stop ≡ counted_stop member.now devices.now count) }
-{
-    if count > 1 {
-        let sas = class_attribute_at(alloc, devices, 1, b"sas_device", b"sas_address")?;
-        wide_stop(alloc, member, sas)
-    } else {
-        let phy = class_attribute_at(alloc, devices, 1, b"sas_device", b"phy_identifier")?;
-        narrow_stop(alloc, member, phy, devices.get(3))
-    }
-}
-
-/// The number that an attribute is, as it is written.
-fn number_of(value: Option<&[u8]>) -> Option<u64>
-    ensures { result ≡ option_and_then (number_in AsWritten (2 ^ 32 - 1)) (option_map (λ t. t.now) value.entry) }
-{
-    number_in(Base::AsWritten, (1 << 32) - 1, value?)
-}
-
-/// What a disk of SAS adds, by the devices from the target on and how many phys its port reports.
-#[tactic(auto, unfolding(crate::specs::Scsi::phys_stop))]
-fn phys_stop(
-    alloc: Global,
-    member: &Member<'_>,
-    devices: &[Member<'_>],
-    phys: Option<&[u8]>,
-) -> Result<Stop, AllocError>
-    ensures { IfOk result (λ stop. stop ≡ phys_stop member.now devices.now (option_map (λ t. t.now) phys.entry)) }
-{
-    match number_of(phys) {
-        Some(count) => counted_stop(alloc, member, devices, count),
-        None => Ok(Stop::ending(true, true, absent(alloc, b"num_phys", phys)?)),
-    }
-}
-
-/// What a disk of SAS adds.
+/// What a disk of SAS adds, by how many phys its port has.
 #[tactic(auto, unfolding(crate::specs::Scsi::sas_stop))]
 pub(crate) fn sas_stop(
     alloc: Global,
@@ -170,7 +120,16 @@ pub(crate) fn sas_stop(
 ) -> Result<Stop, AllocError>
     ensures { IfOk result (λ stop. stop ≡ sas_stop member.now above.now) }
 {
-    let devices = from_first(b"scsi", b"scsi_target", above);
-    let phys = class_attribute_at(alloc, devices, 2, b"sas_port", b"num_phys")?;
-    phys_stop(alloc, member, devices, phys)
+    let devices = from_first(b"scsi_target", above);
+    let Some(phys) = class_attribute_at(alloc, devices, 2, b"sas_port", b"num_phys")? else {
+        return lost(alloc, b"num_phys", true);
+    };
+    let Some(count) = number_in(Base::AsWritten, (1 << 32) - 1, phys) else {
+        return Ok(Stop::ending(true, true, OwnedTexts::new(alloc)));
+    };
+    if count > 1 {
+        wide_stop(alloc, member, devices)
+    } else {
+        narrow_stop(alloc, member, devices)
+    }
 }

@@ -1,17 +1,14 @@
 //! SCSI: the transport that the path of a device says about, its unit, and what the device adds.
-ghost use Rattle.std.specs.Prelude.{◌≡◌, ◌∷◌, ◌<◌, ◌^◌, [], codes, decimal, IfOk, IfSome, length, map, option_map};
-ghost use Rattle.std.specs.List.{concat};
-ghost use Rattle.builtin_devices.specs.Devices.{attribute};
-ghost use Rattle.builtin_path.specs.Scsi.{address, described_by, firewire_stop, four_digits, hex_digit, numbered_unit, scsi_stop, transport_of};
-ghost use Rattle.builtin_path.specs.Scsi.{transport_stop, unit_number, unit_text};
+ghost use Rattle.std.specs.Prelude.{◌≡◌, IfOk, map};
+ghost use Rattle.builtin_path.specs.Scsi.{described_by, four_digits, hex_digit, scsi_stop, transport_of, transport_stop, unit_number, unit_text};
 
 use crate::members::{Member, row};
 use crate::sas::sas_stop;
 use crate::scsi_hosts::other_stop;
-use crate::scsi_transports::{ata_stop, fibre_stop, guid_stop_above, iscsi_stop};
+use crate::scsi_transports::{ata_stop, fibre_stop, guid_stop, iscsi_stop};
 use crate::stops::Stop;
-use crate::texts::{concatenated, contains};
-use builtin_devices::{Address, Base, address_of, is_text, name_number, number_in, type_of};
+use crate::texts::{concatenated, first_place};
+use builtin_devices::{Base, attribute, is_text, name_number, number_in, type_of};
 use itoa::Buffer;
 use std::alloc::{AllocError, Global};
 use text_bytes::Bytes;
@@ -34,7 +31,7 @@ pub(crate) enum Transport {
 }
 
 /// Texts that are in the path of a device, each with the transport that it shows.
-const TRANSPORTS: [(&[u8], Transport); 6] = [
+pub(crate) const TRANSPORTS: [(&[u8], Transport); 6] = [
     (b"/rport-", Transport::FibreChannel),
     (b"/end_device-", Transport::Sas),
     (b"/session", Transport::Iscsi),
@@ -51,7 +48,7 @@ fn described_by(rows: &[(&[u8], Transport)], path: &[u8]) -> Option<Transport>
     ensures { result ≡ described_by (map (λ row. (row.0.now, row.1)) rows.now) path.now }
 {
     for row in rows {
-        if contains(row.0, path) {
+        if first_place(row.0, path).is_some() {
             return Some(row.1);
         }
     }
@@ -64,13 +61,6 @@ fn transport_of(path: &[u8]) -> Option<Transport>
     ensures { result ≡ transport_of path.now }
 {
     described_by(&TRANSPORTS, path)
-}
-
-/// The address of a device.
-pub(crate) fn place_of(member: &Member<'_>) -> Option<Address>
-    ensures { result ≡ address member.now }
-{
-    address_of(member.component())
 }
 
 /// The last digit of a number in base 16.
@@ -92,22 +82,6 @@ fn four_digits(number: u64) -> [u8; 4]
     ]
 }
 
-/// A unit by its number.
-fn numbered_unit(alloc: Global, number: Option<u64>) -> Result<Bytes, AllocError>
-    ensures { IfOk result (λ text. text ≡ numbered_unit number) }
-{
-    let Some(number) = number else {
-        return Bytes::copy_of(alloc, b"(null)");
-    };
-    if number < 256 {
-        let mut buffer = Buffer::new();
-        return concatenated(alloc, &[b"lun-", buffer.format(number).as_bytes()]);
-    }
-    let low = four_digits(number);
-    let high = four_digits(number / 65536);
-    concatenated(alloc, &[b"lun-0x", &low, &high, b"00000000"])
-}
-
 /// The number of the unit of a SCSI device.
 fn unit_number(member: &Member<'_>) -> Option<u64>
     ensures { result ≡ unit_number member.now }
@@ -120,43 +94,38 @@ fn unit_number(member: &Member<'_>) -> Option<u64>
 pub(crate) fn unit_text(alloc: Global, member: &Member<'_>) -> Result<Bytes, AllocError>
     ensures { IfOk result (λ text. text ≡ unit_text member.now) }
 {
-    numbered_unit(alloc, unit_number(member))
+    let Some(number) = unit_number(member) else {
+        return Bytes::copy_of(alloc, b"(null)");
+    };
+    if number < 256 {
+        let mut buffer = Buffer::new();
+        return concatenated(alloc, &[b"lun-", buffer.format(number).as_bytes()]);
+    }
+    let low = four_digits(number);
+    let high = four_digits(number / 65536);
+    concatenated(alloc, &[b"lun-0x", &low, &high, b"00000000"])
 }
 
-/// What a SCSI device adds by a transport.
+/// What a SCSI device adds by the transport that its path shows.
 fn transport_stop(
     alloc: Global,
-    transport: Option<Transport>,
     member: &Member<'_>,
     above: &[Member<'_>],
 ) -> Result<Stop, AllocError>
-    ensures { IfOk result (λ stop. stop ≡ transport_stop transport member.now above.now) }
+    ensures { IfOk result (λ stop. stop ≡ transport_stop (transport_of member.now.path) member.now above.now) }
 {
-    match transport {
+    match transport_of(member.device.path()) {
         None => other_stop(alloc, member, above),
         Some(Transport::FibreChannel) => fibre_stop(alloc, member, above),
         Some(Transport::Sas) => sas_stop(alloc, member, above),
         Some(Transport::Iscsi) => iscsi_stop(alloc, member, above),
         Some(Transport::Ata) => ata_stop(alloc, member, above),
-        Some(Transport::HyperV) => guid_stop_above(alloc, member, above, 37),
-        Some(Transport::HyperVByAcpi) => guid_stop_above(alloc, member, above, 38),
+        Some(Transport::HyperV) => guid_stop(alloc, member, above, 37),
+        Some(Transport::HyperVByAcpi) => guid_stop(alloc, member, above, 38),
     }
 }
 
-/// What a SCSI device adds, which may be one of FireWire.
-fn unit_stop(alloc: Global, member: &Member<'_>, above: &[Member<'_>]) -> Result<Stop, AllocError>
-    ensures { IfOk result (λ stop. stop ≡ firewire_stop (attribute member.now (codes "ieee1394_id")) member.now above.now) }
-{
-    match member.attribute(b"ieee1394_id") {
-        None => transport_stop(alloc, transport_of(member.device.path()), member, above),
-        Some(id) => {
-            let part = concatenated(alloc, &[b"ieee1394-0x", id])?;
-            Ok(Stop::adding(alloc, part, true, true, row(b"scsi", above)))
-        }
-    }
-}
-
-/// What a device of subsystem scsi adds: only one of type scsi_device adds a part.
+/// What a device of subsystem scsi adds: only one of type scsi_device adds a part. It may be one of FireWire.
 #[tactic(auto, unfolding(crate::specs::Scsi::scsi_stop))]
 pub(crate) fn scsi_stop(
     alloc: Global,
@@ -165,9 +134,12 @@ pub(crate) fn scsi_stop(
 ) -> Result<Stop, AllocError>
     ensures { IfOk result (λ stop. stop ≡ scsi_stop member.now above.now) }
 {
-    if is_text(b"scsi_device", type_of(member.device)) {
-        unit_stop(alloc, member, above)
-    } else {
-        Ok(Stop::passing(alloc, true))
+    if !is_text(b"scsi_device", type_of(member.device)) {
+        return Ok(Stop::passing(alloc, true));
     }
+    let Some(id) = attribute(member.device, b"ieee1394_id") else {
+        return transport_stop(alloc, member, above);
+    };
+    let part = concatenated(alloc, &[b"ieee1394-0x", id])?;
+    Ok(Stop::adding(alloc, part, true, true, row(b"scsi", above)))
 }

@@ -1,18 +1,17 @@
 //! What a SCSI device of every other transport adds: its address, by the hosts beside its own.
-ghost use Rattle.std.specs.Prelude.{◌≡◌, ◌∷◌, [], IfOk, codes, filter_map, fold, length, map, option_map, option_copied};
-ghost use Rattle.text_tables.specs.Texts.{same_text};
-ghost use Rattle.std.specs.List.{list_any};
-ghost use Rattle.builtin_path.specs.Scsi.{beside_host, host_name, host_names, host_number, host_part, host_stop, hosts_stop, in_host, lower, lowest};
-ghost use Rattle.builtin_path.specs.Scsi.{numbered_host_stop, other_by, other_stop};
+ghost use Rattle.std.specs.Prelude.{◌≡◌, [], IfOk, false, map, option_map, option_copied, true};
+ghost use Rattle.std.specs.Option.{option_map_or};
+ghost use Rattle.text_bytes.specs.Kernels.{last_component};
+ghost use Rattle.builtin_path.specs.Stops.{ending};
+ghost use Rattle.builtin_path.specs.Scsi.{beside_host, host_name, host_names, host_part, host_stop, lower, lowest, other_stop};
 
-use crate::members::{Member, below_first, folder};
-use crate::scsi::place_of;
+use crate::members::{Member, below_first};
 use crate::stops::{Next, Stop, needed};
 use crate::texts::{after_first, concatenated};
-use builtin_devices::{Address, Base, number_in};
+use builtin_devices::{Address, Base, address_of, number_in};
 use itoa::Buffer;
 use std::alloc::{AllocError, Global};
-use text_bytes::{Bytes, split_once};
+use text_bytes::{Bytes, last_component_len, split_once};
 use text_tables::{OwnedTexts, is_among};
 
 /// The name of a folder `host*` in which an attribute is.
@@ -41,13 +40,6 @@ fn host_names<'d>(alloc: Global, member: &Member<'d>) -> Result<Vec<&'d [u8]>, A
     Ok(names)
 }
 
-/// The number of a folder of a host.
-fn host_number(name: &[u8]) -> Option<u64>
-    ensures { result ≡ host_number name.now }
-{
-    number_in(Base::Decimal, (1 << 32) - 1, after_first(4, name))
-}
-
 /// The lower of two numbers, the first of which may be absent.
 fn lower(lowest: Option<u64>, number: u64) -> Option<u64>
     ensures { result ≡ lower lowest number }
@@ -65,7 +57,7 @@ fn lowest(names: &[&[u8]]) -> Option<u64>
 {
     let mut lowest = None;
     for name in names {
-        if let Some(number) = host_number(name) {
+        if let Some(number) = number_in(Base::Decimal, (1 << 32) - 1, after_first(4, name)) {
             lowest = lower(lowest, number);
         }
     }
@@ -95,40 +87,28 @@ fn host_part(alloc: Global, place: Address, first: u64) -> Result<Bytes, AllocEr
     )
 }
 
-/// What a device adds, by the lowest number of its hosts.
-fn numbered_host_stop(
-    alloc: Global,
-    place: Address,
-    count: usize,
-    lowest: Option<u64>,
-) -> Result<Stop, AllocError>
-    ensures { IfOk result (λ stop. stop ≡ numbered_host_stop place count lowest) }
-{
-    let Some(first) = lowest else {
-        let mut stop = Stop::passing(alloc, true);
-        stop.next = Next::On(count);
-        return Ok(stop);
-    };
-    let part = host_part(alloc, place, first)?;
-    Ok(Stop::adding(alloc, part, true, false, count))
-}
-
 /// What a device adds, by its host and the folders of hosts beside it.
-fn hosts_stop(
+fn host_stop(
     alloc: Global,
     place: Address,
     count: usize,
     host: &[u8],
     hosts: &[&[u8]],
 ) -> Result<Stop, AllocError>
-    ensures { IfOk result (λ stop. stop ≡ hosts_stop place count host.now (map (λ t. t.now) hosts.now)) }
+    ensures { IfOk result (λ stop. stop ≡ host_stop place count host.now (map (λ t. t.now) hosts.now)) }
 {
-    if is_among(hosts, host) {
-        return numbered_host_stop(alloc, place, count, lowest(hosts));
+    if !is_among(hosts, host) {
+        let mut stop = Stop::ending(true, false, needed(alloc, b"host*")?);
+        stop.next = Next::Fails;
+        return Ok(stop);
     }
-    let mut stop = Stop::ending(true, false, needed(alloc, b"host*")?);
-    stop.next = Next::Fails;
-    Ok(stop)
+    let Some(first) = lowest(hosts) else {
+        let mut stop = Stop::passing(alloc, true);
+        stop.next = Next::On(count);
+        return Ok(stop);
+    };
+    let part = host_part(alloc, place, first)?;
+    Ok(Stop::adding(alloc, part, true, false, count))
 }
 
 /// The folders of hosts beside a host.
@@ -142,30 +122,33 @@ fn beside_host<'d>(
     let Some(above) = above else {
         return Ok(Vec::new(alloc));
     };
-    if above.device.path() != folder(host.device.path()) {
+    let path = host.device.path();
+    let (folder, _) = path.split_at(path.len().saturating_sub(last_component_len(path) + 1));
+    if above.device.path() != folder {
         return Ok(Vec::new(alloc));
     }
     host_names(alloc, above)
 }
 
 /// What a device adds, by its host and the device above that.
-fn host_stop(
+fn nearest_host_stop(
     alloc: Global,
     place: Address,
     count: usize,
     host: Option<&Member<'_>>,
     above: Option<&Member<'_>>,
 ) -> Result<Stop, AllocError>
-    ensures { IfOk result (λ stop. stop ≡ host_stop place count (option_copied host.entry) (option_copied above.entry)) }
+    ensures { IfOk result (λ stop. stop
+        ≡ option_map_or (λ host. host_stop place count (last_component host.path) (beside_host host (option_copied above.entry))) (option_copied host.entry) (ending true false [])) }
 {
     let Some(host) = host else {
         return Ok(Stop::ending(true, false, OwnedTexts::new(alloc)));
     };
     let hosts = beside_host(alloc, host, above)?;
-    hosts_stop(alloc, place, count, host.component(), &hosts)
+    host_stop(alloc, place, count, host.component(), &hosts)
 }
 
-/// What a device whose path shows no transport adds.
+/// What a device whose path shows no transport adds, by its address and the hosts above it.
 #[tactic(auto, unfolding(crate::specs::Scsi::other_stop))]
 pub(crate) fn other_stop(
     alloc: Global,
@@ -174,10 +157,10 @@ pub(crate) fn other_stop(
 ) -> Result<Stop, AllocError>
     ensures { IfOk result (λ stop. stop ≡ other_stop member.now above.now) }
 {
-    let Some(place) = place_of(member) else {
+    let Some(place) = address_of(member.component()) else {
         return Ok(Stop::ending(true, false, OwnedTexts::new(alloc)));
     };
-    let count = below_first(b"scsi", b"scsi_host", above);
+    let count = below_first(b"scsi_host", above);
     let devices = above.split_at(count).1;
-    host_stop(alloc, place, count + 1, devices.get(0), devices.get(1))
+    nearest_host_stop(alloc, place, count + 1, devices.get(0), devices.get(1))
 }

@@ -1,15 +1,15 @@
 //! What a SCSI device adds by its transport.
-ghost use Rattle.std.specs.Prelude.{◌≡◌, ◌∷◌, [], ◌-◌, IfOk, codes, find, length, map, option_and_then, option_copied, option_map, true, ◌≤◌, ◌^◌};
-ghost use Rattle.std.specs.List.{concat};
-ghost use Rattle.builtin_path.specs.Members.{class_attribute};
-ghost use Rattle.builtin_path.specs.Scsi.{ata_by, ata_place, ata_port_stop, ata_stop, braced, fibre_by, fibre_stop, guid_by, guid_stop, has_braces};
-ghost use Rattle.builtin_path.specs.Scsi.{is_session, iscsi_by, iscsi_stop, portal_attribute, portal_needs, portal_stop, session_stop};
+ghost use Rattle.std.specs.Prelude.{◌≡◌, ◌∷◌, [], IfOk, codes, find, option_copied, option_map, ◌≤◌};
+ghost use Rattle.text_bytes.specs.Kernels.{last_component};
+ghost use Rattle.builtin_path.specs.Members.{begins, class_attribute_at, from_first};
+ghost use Rattle.builtin_path.specs.Scsi.{ata_place, ata_port_stop, ata_stop, braced, fibre_stop, guid_stop, iscsi_stop, portal_attribute, portal_needs, portal_stop};
+ghost use Rattle.builtin_path.specs.Scsi.{session_stop};
 
 use crate::members::{Member, attribute_at, class_attribute_at, from_first};
-use crate::scsi::{place_of, unit_text};
+use crate::scsi::unit_text;
 use crate::stops::{Share, Stop, lost};
 use crate::texts::{after_first, concatenated, first_bytes};
-use builtin_devices::{Address, name_number};
+use builtin_devices::{Address, address_of, attribute, name_number};
 use itoa::Buffer;
 use std::alloc::{AllocError, Global};
 use text_bytes::{Bytes, begins_with};
@@ -24,15 +24,13 @@ pub(crate) fn fibre_stop(
 ) -> Result<Stop, AllocError>
     ensures { IfOk result (λ stop. stop ≡ fibre_stop member.now above.now) }
 {
-    let devices = from_first(b"scsi", b"scsi_target", above);
-    match class_attribute_at(alloc, devices, 0, b"fc_transport", b"port_name")? {
-        None => lost(alloc, b"port_name", true),
-        Some(port) => {
-            let unit = unit_text(alloc, member)?;
-            let part = concatenated(alloc, &[b"fc-", port, b"-", unit.as_slice()])?;
-            Ok(Stop::adding(alloc, part, true, true, 0))
-        }
-    }
+    let devices = from_first(b"scsi_target", above);
+    let Some(port) = class_attribute_at(alloc, devices, 0, b"fc_transport", b"port_name")? else {
+        return lost(alloc, b"port_name", true);
+    };
+    let unit = unit_text(alloc, member)?;
+    let part = concatenated(alloc, &[b"fc-", port, b"-", unit.as_slice()])?;
+    Ok(Stop::adding(alloc, part, true, true, 0))
 }
 
 /// An attribute of the connection 0 of a session.
@@ -57,7 +55,7 @@ fn portal_attribute<'d>(
             name,
         ],
     )?;
-    Ok(session.attribute(path.as_slice()))
+    Ok(attribute(session.device, path.as_slice()))
 }
 
 /// What the block would have to report about a portal.
@@ -118,7 +116,8 @@ fn target_stop(
     session: &Member<'_>,
     target: &[u8],
 ) -> Result<Stop, AllocError>
-    ensures { IfOk result (λ stop. stop ≡ session_stop member.now session.now (Some target.now)) }
+    ensures { IfOk result (λ stop. stop
+        ≡ portal_stop member.now target.now (portal_attribute (codes "persistent_address") session.now) (portal_attribute (codes "persistent_port") session.now)) }
 {
     let address = portal_attribute(alloc, b"persistent_address", session)?;
     let port = portal_attribute(alloc, b"persistent_port", session)?;
@@ -131,7 +130,7 @@ fn session_stop(
     member: &Member<'_>,
     session: &Member<'_>,
 ) -> Result<Stop, AllocError>
-    ensures { IfOk result (λ stop. stop ≡ session_stop member.now session.now (class_attribute (codes "iscsi_session") (codes "targetname") session.now)) }
+    ensures { IfOk result (λ stop. stop ≡ session_stop member.now session.now) }
 {
     match session.class_attribute(alloc, b"iscsi_session", b"targetname")? {
         Some(target) => target_stop(alloc, member, session, target),
@@ -141,19 +140,19 @@ fn session_stop(
 
 /// Whether a device is a session of iSCSI, by its name.
 fn is_session(member: &Member<'_>) -> bool
-    ensures { result ≡ is_session member.now }
+    ensures { result ≡ begins (codes "session") (last_component member.now.path) }
 {
     member.component().starts_with(b"session")
 }
 
 /// The nearest session of iSCSI.
 fn nearest_session<'m, 'd>(above: &'m [Member<'d>]) -> Option<&'m Member<'d>>
-    ensures { option_copied result ≡ find is_session above.now }
+    ensures { option_copied result ≡ find (λ device. begins (codes "session") (last_component device.path)) above.now }
 {
     above.iter().find(|member| is_session(member))
 }
 
-/// What a disk of iSCSI adds.
+/// What a disk of iSCSI adds, by the nearest session.
 #[tactic(auto, unfolding(crate::specs::Scsi::iscsi_stop))]
 pub(crate) fn iscsi_stop(
     alloc: Global,
@@ -180,7 +179,7 @@ fn ata_place(alloc: Global, place: Address) -> Result<Bytes, AllocError>
     }
 }
 
-/// What a disk of ATA adds, by the number of its port.
+/// What a disk of ATA adds, by the number of its port and its place there.
 fn ata_port_stop(alloc: Global, place: Address, port: Option<&[u8]>) -> Result<Stop, AllocError>
     ensures { IfOk result (λ stop. stop ≡ ata_port_stop place (option_map (λ t. t.now) port.entry)) }
 {
@@ -194,11 +193,12 @@ fn ata_port_stop(alloc: Global, place: Address, port: Option<&[u8]>) -> Result<S
     Ok(stop)
 }
 
-/// What a disk of ATA adds, by its address.
+/// What a disk of ATA adds, by its address: the port is right above its host.
 fn placed_ata_stop(alloc: Global, place: Address, above: &[Member<'_>]) -> Result<Stop, AllocError>
-    ensures { IfOk result (λ stop. stop ≡ ata_by (Some place) above.now) }
+    ensures { IfOk result (λ stop. stop
+        ≡ ata_port_stop place (class_attribute_at (from_first (codes "scsi_host") above.now) 1 (codes "ata_port") (codes "port_no"))) }
 {
-    let devices = from_first(b"scsi", b"scsi_host", above);
+    let devices = from_first(b"scsi_host", above);
     let port = class_attribute_at(alloc, devices, 1, b"ata_port", b"port_no")?;
     ata_port_stop(alloc, place, port)
 }
@@ -212,18 +212,10 @@ pub(crate) fn ata_stop(
 ) -> Result<Stop, AllocError>
     ensures { IfOk result (λ stop. stop ≡ ata_stop member.now above.now) }
 {
-    match place_of(member) {
+    match address_of(member.component()) {
         Some(place) => placed_ata_stop(alloc, place, above),
         None => Ok(Stop::ending(true, false, OwnedTexts::new(alloc))),
     }
-}
-
-/// Whether a text has braces at its start and as the last of so many bytes.
-fn has_braces(size: usize, text: &[u8]) -> bool
-    requires { 1 ≤ size }
-    ensures { result ≡ has_braces size text.now }
-{
-    begins_with(b'{', text) && text.get(size - 1) == Some(&b'}')
 }
 
 /// What is between the braces, without `-`.
@@ -239,39 +231,26 @@ fn braced(alloc: Global, size: usize, text: &[u8]) -> Result<Bytes, AllocError>
     Ok(Bytes::new(bytes))
 }
 
-/// What a disk of Hyper-V adds, by the name of the device above its host.
-fn guid_stop(
-    alloc: Global,
-    member: &Member<'_>,
-    size: usize,
-    guid: Option<&[u8]>,
-) -> Result<Stop, AllocError>
-    requires { 1 ≤ size }
-    ensures { IfOk result (λ stop. stop ≡ guid_stop member.now size (option_map (λ t. t.now) guid.entry)) }
-{
-    let Some(guid) = guid else {
-        return lost(alloc, b"device_id", false);
-    };
-    if !has_braces(size, guid) {
-        return Ok(Stop::ending(true, false, OwnedTexts::new(alloc)));
-    }
-    let name = braced(alloc, size, guid)?;
-    let unit = unit_text(alloc, member)?;
-    let part = concatenated(alloc, &[b"vmbus-", name.as_slice(), b"-", unit.as_slice()])?;
-    Ok(Stop::adding(alloc, part, true, false, 0))
-}
-
-/// What a disk of Hyper-V adds if its name has so many bytes with its braces.
-#[tactic(auto, unfolding(crate::specs::Scsi::guid_by))]
-pub(crate) fn guid_stop_above(
+/// What a disk of Hyper-V adds, by the name of the device above its host, which has so many bytes with its braces.
+#[tactic(auto, unfolding(crate::specs::Scsi::guid_stop))]
+pub(crate) fn guid_stop(
     alloc: Global,
     member: &Member<'_>,
     above: &[Member<'_>],
     size: usize,
 ) -> Result<Stop, AllocError>
     requires { 1 ≤ size }
-    ensures { IfOk result (λ stop. stop ≡ guid_by member.now above.now size) }
+    ensures { IfOk result (λ stop. stop ≡ guid_stop member.now above.now size) }
 {
-    let devices = from_first(b"scsi", b"scsi_host", above);
-    guid_stop(alloc, member, size, attribute_at(devices, 1, b"device_id"))
+    let devices = from_first(b"scsi_host", above);
+    let Some(guid) = attribute_at(devices, 1, b"device_id") else {
+        return lost(alloc, b"device_id", false);
+    };
+    if !begins_with(b'{', guid) || guid.get(size - 1) != Some(&b'}') {
+        return Ok(Stop::ending(true, false, OwnedTexts::new(alloc)));
+    }
+    let name = braced(alloc, size, guid)?;
+    let unit = unit_text(alloc, member)?;
+    let part = concatenated(alloc, &[b"vmbus-", name.as_slice(), b"-", unit.as_slice()])?;
+    Ok(Stop::adding(alloc, part, true, false, 0))
 }

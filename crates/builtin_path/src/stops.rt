@@ -1,6 +1,6 @@
 //! What one device of the way adds to a path.
 ghost use Rattle.std.specs.Prelude.{◌≡◌, ◌∷◌, [], IfOk, length, drop, option_map, true};
-ghost use Rattle.builtin_path.specs.Stops.{absent, adding, adding_both, ending, passed, passing};
+ghost use Rattle.builtin_path.specs.Stops.{absent, adding, ending, passed, passing};
 
 use crate::members::Member;
 use std::alloc::{AllocError, Global};
@@ -121,20 +121,6 @@ impl Stop {
             share: Share::Apart,
             transport,
             parent,
-            needs: OwnedTexts::new(alloc),
-            next: Next::On(count),
-        }
-    }
-
-    /// A device that adds a part to both paths, above which so many devices are skipped.
-    pub(crate) fn adding_both(alloc: Global, part: Bytes, transport: bool, count: usize) -> Stop
-        ensures { result ≡ adding_both part transport count }
-    {
-        Stop {
-            part: Some(part),
-            share: Share::Both,
-            transport,
-            parent: true,
             needs: OwnedTexts::new(alloc),
             next: Next::On(count),
         }

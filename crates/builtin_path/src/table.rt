@@ -1,24 +1,19 @@
 //! What devices of each subsystem add to a path.
-ghost use Rattle.std.specs.Prelude.{◌≡◌, ◌∷◌, ◌≤◌, [], IfOk, codes, decimal, drop, length, map, option_map};
-ghost use Rattle.std.specs.List.{concat, prefix_len};
-ghost use Rattle.text_bytes.specs.Numbers.{is_digit};
-ghost use Rattle.builtin_devices.specs.Devices.{attribute};
-ghost use Rattle.builtin_path.specs.Members.{begins, row};
-ghost use Rattle.builtin_path.specs.Table.{ap_part, ap_stop, bcma_stop, begun_tapes, beside, first_begun, cciss_stop, leading_number, manner_of};
-ghost use Rattle.builtin_path.specs.Table.{named_stop, numbered_by, numbered_stop, second_by, second_number, stop, stop_as, tape_by};
-ghost use Rattle.builtin_path.specs.Table.{tape_part, tape_stop, virtio_stop};
+ghost use Rattle.std.specs.Prelude.{◌≡◌, IfOk, find, map, option_map};
+ghost use Rattle.builtin_path.specs.Members.{begins};
+ghost use Rattle.builtin_path.specs.Table.{ap_part, beside, leading_number, manner_of, named_stop, numbered_stop, second_number, second_stop, stop, stop_as};
+ghost use Rattle.builtin_path.specs.Table.{tape_part, tape_stop};
 
 use crate::members::{Member, row};
 use crate::nvme::{nvme_stop, ways_stop};
 use crate::scsi::scsi_stop;
-use crate::stops::{Next, Stop};
+use crate::stops::{Next, Share, Stop};
 use crate::texts::{concatenated, leading_digits};
 use crate::usb::usb_stop;
-use builtin_devices::{Devices, name_number};
+use builtin_devices::{Devices, attribute, name_number};
 use itoa::Buffer;
 use std::alloc::{AllocError, Global};
-use text_bytes::{Bytes, decimal_below, following};
-use text_links::kernel_name;
+use text_bytes::{Bytes, decimal_below, following, kernel_name};
 use text_tables::{OwnedTexts, is_among};
 
 /// How devices of a subsystem add to a path.
@@ -53,7 +48,7 @@ pub(crate) enum Manner {
 }
 
 /// Each subsystem whose devices add to a path, and how.
-const MANNERS: [(&[u8], Manner); 20] = [
+pub(crate) const MANNERS: [(&[u8], Manner); 20] = [
     (b"pci", Manner::Parent),
     (b"acpi", Manner::Parent),
     (b"xen", Manner::Parent),
@@ -77,10 +72,10 @@ const MANNERS: [(&[u8], Manner); 20] = [
 ];
 
 /// Names of tapes that count whole.
-const WHOLE_TAPES: [&[u8]; 2] = [b"nst", b"st"];
+pub(crate) const WHOLE_TAPES: [&[u8]; 2] = [b"nst", b"st"];
 
 /// What the names of other tapes begin with.
-const BEGUN_TAPES: [&[u8]; 6] = [b"nstl", b"nstm", b"nsta", b"stl", b"stm", b"sta"];
+pub(crate) const BEGUN_TAPES: [&[u8]; 6] = [b"nstl", b"nstm", b"nsta", b"stl", b"stm", b"sta"];
 
 /// The numbers of a name are below this.
 const NUMBERS: u64 = 1 << 32;
@@ -117,42 +112,23 @@ fn named_stop(
 {
     let name = kernel_name(alloc, member.device.path())?;
     let part = concatenated(alloc, &[subsystem, b"-", name.as_slice()])?;
-    Ok(Stop::adding_both(alloc, part, transport, row(subsystem, above)))
+    let mut stop = Stop::adding(alloc, part, transport, true, row(subsystem, above));
+    stop.share = Share::Both;
+    Ok(stop)
 }
 
-/// The part of a queue of cryptographic adapters.
-fn ap_part(
-    alloc: Global,
-    kind: Option<&[u8]>,
-    functions: Option<&[u8]>,
-    name: &[u8],
-) -> Result<Bytes, AllocError>
-    ensures { IfOk result (λ part. part ≡ ap_part (option_map (λ t. t.now) kind.entry) (option_map (λ t. t.now) functions.entry) name.now) }
-{
-    match (kind, functions) {
-        (Some(kind), Some(functions)) => concatenated(alloc, &[b"ap-", kind, b"-", functions]),
-        _ => concatenated(alloc, &[b"ap-", name]),
-    }
-}
-
-/// What a queue of cryptographic adapters adds.
-fn ap_stop(alloc: Global, member: &Member<'_>, above: &[Member<'_>]) -> Result<Stop, AllocError>
-    ensures { IfOk result (λ stop. stop ≡ ap_stop member.now above.now) }
+/// The part of a queue of cryptographic adapters: its type and functions, or its name if one of these is not there.
+fn ap_part(alloc: Global, member: &Member<'_>) -> Result<Bytes, AllocError>
+    ensures { IfOk result (λ part. part ≡ ap_part member.now) }
 {
     let name = kernel_name(alloc, member.device.path())?;
-    let kind = member.attribute(b"type");
-    let functions = member.attribute(b"ap_functions");
-    let part = ap_part(alloc, kind, functions, name.as_slice())?;
-    Ok(Stop::adding(alloc, part, true, true, row(b"ap", above)))
-}
-
-/// What a device of virtio adds: nothing, and its row is skipped.
-fn virtio_stop(alloc: Global, subsystem: &[u8], above: &[Member<'_>]) -> Stop
-    ensures { result ≡ virtio_stop subsystem.now above.now }
-{
-    let mut stop = Stop::passing(alloc, true);
-    stop.next = Next::On(row(subsystem, above));
-    stop
+    let Some(kind) = attribute(member.device, b"type") else {
+        return concatenated(alloc, &[b"ap-", name.as_slice()]);
+    };
+    let Some(functions) = attribute(member.device, b"ap_functions") else {
+        return concatenated(alloc, &[b"ap-", name.as_slice()]);
+    };
+    concatenated(alloc, &[b"ap-", kind, b"-", functions])
 }
 
 /// A device by the number at the end of its name.
@@ -193,48 +169,29 @@ fn second_number(start: &[u8], mark: &[u8], name: &[u8]) -> Option<u64>
     Some(number)
 }
 
-/// A device by the second number of its name.
-fn second_by(
+/// A device by the second number of its name, which is a start, a number, a mark, and a number.
+fn second_stop(
     alloc: Global,
     start: &[u8],
-    number: Option<u64>,
+    mark: &[u8],
+    label: &[u8],
+    member: &Member<'_>,
     count: usize,
 ) -> Result<Stop, AllocError>
-    ensures { IfOk result (λ stop. stop ≡ second_by start.now number count) }
+    ensures { IfOk result (λ stop. stop ≡ second_stop start.now mark.now label.now member.now count) }
 {
-    let Some(number) = number else {
+    let name = kernel_name(alloc, member.device.path())?;
+    let Some(number) = second_number(start, mark, name.as_slice()) else {
         return Ok(Stop::ending(true, false, OwnedTexts::new(alloc)));
     };
     let mut buffer = Buffer::new();
-    let part = concatenated(alloc, &[start, buffer.format(number).as_bytes()])?;
+    let part = concatenated(alloc, &[label, buffer.format(number).as_bytes()])?;
     Ok(Stop::adding(alloc, part, true, false, count))
-}
-
-/// What a device of bcma adds: the number of its core.
-fn bcma_stop(alloc: Global, member: &Member<'_>) -> Result<Stop, AllocError>
-    ensures { IfOk result (λ stop. stop ≡ bcma_stop member.now) }
-{
-    let name = kernel_name(alloc, member.device.path())?;
-    second_by(
-        alloc,
-        b"bcma-",
-        second_number(b"bcma", b":", name.as_slice()),
-        0,
-    )
-}
-
-/// What a device of cciss adds: the number of its disk.
-fn cciss_stop(alloc: Global, member: &Member<'_>, above: &[Member<'_>]) -> Result<Stop, AllocError>
-    ensures { IfOk result (λ stop. stop ≡ cciss_stop member.now above.now) }
-{
-    let name = kernel_name(alloc, member.device.path())?;
-    let number = second_number(b"c", b"d", name.as_slice());
-    second_by(alloc, b"cciss-disk", number, row(b"cciss", above))
 }
 
 /// The first of some texts that a name begins with.
 fn first_begun(starts: &[&'static [u8]], name: &[u8]) -> Option<&'static [u8]>
-    ensures { option_map (λ t. t.now) result ≡ first_begun (map (λ t. t.now) starts.now) name.now }
+    ensures { option_map (λ t. t.now) result ≡ find (λ start. begins start name.now) (map (λ t. t.now) starts.now) }
 {
     for start in starts {
         if name.starts_with(start) {
@@ -288,16 +245,26 @@ fn stop_as(
     match manner {
         Manner::Parent => named_stop(alloc, subsystem, false, member, above),
         Manner::Transport => named_stop(alloc, subsystem, true, member, above),
-        Manner::Ap => ap_stop(alloc, member, above),
-        Manner::Virtio => Ok(virtio_stop(alloc, subsystem, above)),
+        Manner::Ap => {
+            let part = ap_part(alloc, member)?;
+            Ok(Stop::adding(alloc, part, true, true, row(b"ap", above)))
+        }
+        Manner::Virtio => {
+            let mut stop = Stop::passing(alloc, true);
+            stop.next = Next::On(row(subsystem, above));
+            Ok(stop)
+        }
         Manner::Usb => usb_stop(alloc, member, above),
         Manner::Scsi => scsi_stop(alloc, member, above),
         Manner::Nvme => nvme_stop(alloc, devices.event(), above),
         Manner::NvmeSubsystem => ways_stop(alloc, devices, member, above),
         Manner::Serio => numbered_stop(alloc, subsystem, b"serio-", member, above),
         Manner::Spi => numbered_stop(alloc, subsystem, b"cs-", member, above),
-        Manner::Bcma => bcma_stop(alloc, member),
-        Manner::Cciss => cciss_stop(alloc, member, above),
+        Manner::Bcma => second_stop(alloc, b"bcma", b":", b"bcma-", member, 0),
+        Manner::Cciss => {
+            let count = row(b"cciss", above);
+            second_stop(alloc, b"c", b"d", b"cciss-disk", member, count)
+        }
         Manner::ScsiTape => tape_stop(alloc, is_begun, member),
     }
 }

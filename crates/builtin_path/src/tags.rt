@@ -1,11 +1,10 @@
 //! The tag of a path.
 ghost use Rattle.std.specs.Prelude.{◌≡◌, IfOk, map};
-ghost use Rattle.builtin_path.specs.Path.{cut_tag, tag, tag_byte};
+ghost use Rattle.builtin_path.specs.Path.{tag, tag_byte};
 
 use crate::texts::first_bytes;
 use std::alloc::{AllocError, Global};
-use text_bytes::{Bytes, ends_in};
-use text_links::underscored;
+use text_bytes::{Bytes, ends_in, underscored, without_last};
 
 /// The most bytes of a tag.
 const MAX_TAG: usize = 511;
@@ -19,17 +18,6 @@ fn tag_byte(byte: u8) -> u8
     } else {
         b' '
     }
-}
-
-/// The first bytes of a tag, so many as it may have, without a `_` at their end.
-fn cut_tag(text: &[u8]) -> &[u8]
-    ensures { result.now ≡ cut_tag text.now }
-{
-    let tag = first_bytes(MAX_TAG, text);
-    if ends_in(b'_', tag) {
-        return first_bytes(tag.len().saturating_sub(1), tag);
-    }
-    tag
 }
 
 /// A text in which each byte that does not stay in a tag is a space.
@@ -46,5 +34,9 @@ pub(crate) fn tag(alloc: Global, text: &[u8]) -> Result<Bytes, AllocError>
 {
     let bytes = spaced(alloc, text)?;
     let word = underscored(alloc, &bytes)?;
-    Bytes::copy_of(alloc, cut_tag(&word))
+    let tag = first_bytes(MAX_TAG, &word);
+    if ends_in(b'_', tag) {
+        return Bytes::copy_of(alloc, without_last(tag));
+    }
+    Bytes::copy_of(alloc, tag)
 }

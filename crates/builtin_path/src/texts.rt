@@ -3,7 +3,7 @@ ghost use Rattle.std.specs.Prelude.{◌≡◌, ◌<◌, ◌≤◌, IfOk, IfSome,
 ghost use Rattle.std.specs.List.{concat, join_with_byte, prefix_len};
 ghost use Rattle.text_bytes.specs.Names.{minus};
 ghost use Rattle.text_bytes.specs.Numbers.{is_digit};
-ghost use Rattle.builtin_path.specs.Texts.{contains, first_place, is_at};
+ghost use Rattle.builtin_path.specs.Texts.{first_place};
 
 use std::alloc::{AllocError, Global};
 use text_bytes::{Bytes, is_digit};
@@ -30,28 +30,13 @@ pub(crate) fn leading_digits(text: &[u8]) -> usize
     text.iter().take_while(|byte| is_digit(**byte)).count()
 }
 
-/// Whether a text is at a place of another.
-fn is_at(wanted: &[u8], text: &[u8], place: usize) -> bool
-    ensures { result ≡ is_at wanted.now text.now place }
-{
-    after_first(place, text).starts_with(wanted)
-}
-
 /// The first place of a text where another one is.
 #[tactic(auto, unfolding(crate::specs::Texts::first_place))]
 pub(crate) fn first_place(wanted: &[u8], text: &[u8]) -> Option<usize>
     ensures value { result ≡ first_place wanted.now text.now }
     ensures within { IfSome result (λ place. place < length text.now) }
 {
-    (0..text.len()).position(|place| is_at(wanted, text, place))
-}
-
-/// Whether a text is in another.
-#[tactic(auto, unfolding(crate::specs::Texts::contains))]
-pub(crate) fn contains(wanted: &[u8], text: &[u8]) -> bool
-    ensures { result ≡ contains wanted.now text.now }
-{
-    (0..text.len()).any(|place| is_at(wanted, text, place))
+    (0..text.len()).position(|place| after_first(place, text).starts_with(wanted))
 }
 
 /// Texts one after another.

@@ -1,15 +1,12 @@
 //! The way up from the event device: which devices it passes, and what they add.
-ghost use Rattle.std.specs.Prelude.{◌≡◌, ◌++◌, ◌+◌, ◌≤◌, ◌||◌, IfOk, codes, false, is_some, length, map, not, option_copied, take};
-ghost use Rattle.std.specs.List.{prefix_len};
-ghost use Rattle.builtin_path.specs.Members.{is_in};
-ghost use Rattle.builtin_path.specs.Nvme.{namespace};
+ghost use Rattle.std.specs.Prelude.{◌≡◌, ◌++◌, ◌+◌, ◌≤◌, ◌||◌, IfOk, false, is_some, length, option_copied, take};
 ghost use Rattle.builtin_path.specs.Way.{below_subsystem, from_device, members_of, stops_from, way_by};
 
 use crate::members::Member;
-use crate::nvme::{controller, namespace};
+use crate::nvme::controller;
 use crate::stops::{Stop, following};
 use crate::table::stop;
-use builtin_devices::Devices;
+use builtin_devices::{Devices, attribute};
 use device_core::Device;
 use std::alloc::{AllocError, Global};
 
@@ -46,9 +43,9 @@ fn way_by<'d>(
     devices: &'d Devices<'d>,
     members: &[Member<'_>],
 ) -> Result<Option<&'d Device<'d>>, AllocError>
-    ensures { IfOk result (λ device. option_copied device ≡ way_by devices.now members.now (namespace devices.now)) }
+    ensures { IfOk result (λ device. option_copied device ≡ way_by devices.now members.now) }
 {
-    if namespace(devices.event()).is_none() {
+    if attribute(devices.event().device(), b"nsid").is_none() {
         return Ok(None);
     }
     match members.get(below_subsystem(members)) {

@@ -6,9 +6,9 @@ use Rattle.text_bytes.specs.Names.{comma, delete, minus, space, underscore}
 use Rattle.text_bytes.specs.Texts.{is_empty}
 use Rattle.text_bytes.specs.Text.{Text}
 use Rattle.text_tables.specs.Pairs.{Pair}
-use Rattle.text_links.specs.Characters.{value_safe}
-use Rattle.text_links.specs.Encoded.{encoded}
-use Rattle.text_links.specs.Underscores.{underscored}
+use Rattle.text_bytes.specs.Characters.{value_safe}
+use Rattle.text_bytes.specs.Encoded.{encoded}
+use Rattle.text_bytes.specs.Underscores.{underscored}
 use Rattle.device_core.specs.Values.{DeviceValue}
 use Rattle.builtin_devices.specs.Devices.{attribute}
 use Rattle.builtin_devices.specs.Outcomes.{lacking}

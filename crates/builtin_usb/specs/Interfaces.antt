@@ -5,7 +5,7 @@ use Rattle.std.specs.List.{list_any, filter_map}
 use Rattle.text_bytes.specs.Names.{colon}
 use Rattle.text_bytes.specs.Texts.{is_empty}
 use Rattle.text_bytes.specs.Text.{Text}
-use Rattle.text_links.specs.Encoded.{small_digits}
+use Rattle.text_bytes.specs.Encoded.{small_digits}
 use Rattle.builtin_usb.specs.declared.interfaces.Interface.{Interface}
 
 -- the bytes of the descriptor of a device, with which the file begins

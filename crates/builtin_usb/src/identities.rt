@@ -12,8 +12,7 @@ use builtin_devices::attribute;
 use device_core::Device;
 use std::alloc::{AllocError, Global};
 use std::marker::Model;
-use text_bytes::Bytes;
-use text_links::{underscored, value_safe};
+use text_bytes::{Bytes, underscored, value_safe};
 use text_tables::OwnedTexts;
 
 /// The most bytes of a vendor, a model or a revision that are reported.

@@ -11,8 +11,7 @@ use crate::interfaces::packed;
 use builtin_devices::{add_property, attribute, bytes_of, file_at};
 use device_core::{Device, Event};
 use std::alloc::{AllocError, Global};
-use text_bytes::Bytes;
-use text_links::encoded;
+use text_bytes::{Bytes, encoded};
 use text_tables::OwnedTexts;
 
 /// A name, and the value that it is set to, if any.

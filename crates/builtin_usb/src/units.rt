@@ -9,8 +9,7 @@ use device_core::Device;
 use itoa::Buffer;
 use std::alloc::{AllocError, Global};
 use std::marker::Model;
-use text_bytes::Bytes;
-use text_links::kernel_name;
+use text_bytes::{Bytes, kernel_name};
 use text_tables::OwnedTexts;
 
 /// Texts of a SCSI device, as far as they count, and its target and unit.

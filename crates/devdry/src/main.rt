@@ -1,31 +1,17 @@
 //! The program.
 //!
-//! This crate only connects the crates below it, which parse the arguments, read the files and decide what to write.
-//! What it decides itself is the order of these steps and the status if one of them fails. Everything is done by
-//! functions over a disk, a source and sinks; `main` passes the real ones.
+//! `devdry_gathering` reads the words and all that they ask for; this crate writes what is reported on that, and then does the work
+//! that is left. Everything is done by functions over a disk, a source and sinks; `main` passes the real ones.
 #![tactic(auto)]
 
 ghost use Rattle.std.specs.Prelude.{◌≡◌, drop};
 
-mod comparing;
-mod failing;
-mod finding;
-mod knowing;
-mod linking;
-mod noting;
-mod options;
-mod partial_runs;
-mod piping;
-mod reporting;
 mod running;
-mod terminals;
 
-use crate::options::run_words;
-use crate::reporting::report_arguments_fault;
-use crate::terminals::Terminals;
-use devdry_files::{RealDisk, RealSystem};
-use devdry_input::Again;
-use engine_ends::{SinkOver, SourceOver};
+use crate::running::{report_arguments_fault, run_words};
+use devdry_files::{Again, RealDisk, RealSystem};
+use devdry_gathering::Terminals;
+use engine_sessions::{SinkOver, SourceOver};
 use std::env::{self, VarError};
 use std::io::{self, IsTerminal};
 use std::process::ExitCode;
@@ -68,7 +54,7 @@ fn main(rt: HostRuntime) -> ExitCode {
         Ok(words) => run_words(
             rt.alloc(),
             &disk,
-            &words,
+            words,
             terminals,
             &mut input,
             &mut output,

@@ -1,3 +1,4 @@
+pub mod Whole
 pub mod Adding
 pub mod Examples
 pub mod Ways

@@ -40,18 +40,13 @@ kind_by None = kind.Other
 abbrev pub shown_by : NodeKind → Look
 shown_by kind.Folder = look.Folder
 shown_by kind.File = look.File
-shown_by kind.Link = look.Other
 shown_by (kind.Device number) = if number == null_device then look.File else look.Other
-shown_by kind.Other = look.Other
+shown_by _ = look.Other
 
 -- what a reply shows, or nothing if memory ran out
 abbrev pub looked : Result Node Error → Option Look
 looked (Ok node) = Some (shown_by node.kind)
 looked (Err error) = look_from (error_kind error)
-
--- the identity of what is there
-abbrev pub identity_of : Node → Identity
-identity_of node = record { device = node.file_system; number = node.number }
 
 -- whether something is a symlink
 abbrev pub is_link : NodeKind → Bool
@@ -62,13 +57,12 @@ is_link _ = false
 abbrev pub step_by : NodeKind → Identity → Step
 step_by kind.Folder identity = step.Folder
 step_by kind.File identity = step.File identity
-step_by kind.Link identity = step.NoWay look.Other
 step_by (kind.Device number) identity = if number == null_device then step.File identity else step.NoWay look.Other
-step_by kind.Other identity = step.NoWay look.Other
+step_by _ identity = step.NoWay look.Other
 
 -- what a step shows where there is no symlink
 abbrev pub step_of : Node → Step
-step_of node = step_by node.kind (identity_of node)
+step_of node = step_by node.kind (record { device = node.file_system; number = node.number })
 
 -- whether a step that shows this shows the file with an identity
 abbrev pub shows_own : Step → Identity → Bool
@@ -106,14 +100,11 @@ abbrev pub IsLinkTo : Result Text Error → Step → Type 0
 IsLinkTo (Ok target) shown = LinksTo target shown
 IsLinkTo (Err error) shown = step_unread (error_kind error) ≡ Some shown
 
--- a step shows this at a symlink
-abbrev pub IsLinkStep : (Reply → Type 0) → Text → Step → Type 0
-IsLinkStep may path shown = (reply : Result Text Error) × may (Led path reply) × IsLinkTo reply shown
-
 -- a step shows this, by what is there, with no symlink followed at the path's end: where a symlink leads, what else is there, or why
 -- that can't be told
 abbrev pub IsStepBy : (Reply → Type 0) → Text → Result Node Error → Step → Type 0
-IsStepBy may path (Ok node) shown = MatchBool (is_link node.kind) (IsLinkStep may path shown) (shown ≡ step_of node)
+IsStepBy may path (Ok node) shown =
+    MatchBool (is_link node.kind) ((reply : Result Text Error) × may (Led path reply) × IsLinkTo reply shown) (shown ≡ step_of node)
 IsStepBy may path (Err error) shown = (seen : Look) × (look_from (error_kind error) ≡ Some seen) × (shown ≡ step.NoWay seen)
 
 -- a step shows this
@@ -129,10 +120,6 @@ pub record IsRead (may : Reply → Type 0) (path : Text) : Type 0 where
   pub was_opened : may (Opened path (Ok node))
   pub is_kept : is_refused (shown_by node.kind) path ≡ false
 
--- the file with an identity is read: it is what was opened
-abbrev pub IsOwnRead : (Reply → Type 0) → Text → Identity → Type 0
-IsOwnRead may path identity = (node : Node) × may (Opened path (Ok node)) × (is_own node identity ≡ true)
-
 -- an entry with this name in the folder at a path, which is a folder if a look at it shows one
 pub record IsEntrySeen (may : Reply → Type 0) (folder name : Text) (entry : Entry) : Type 0 where
   pub named_so : string_bytes entry.name ≡ name
@@ -140,17 +127,14 @@ pub record IsEntrySeen (may : Reply → Type 0) (folder name : Text) (entry : En
   pub was_seen : may (Shown (folder ++ slash ∷ name) reply)
   pub is_one : seen_folder reply ≡ Ok entry.is_folder
 
--- the entries of the folder at a path, by its names
-abbrev pub IsListed : (Reply → Type 0) → Text → List Entry → Type 0
-IsListed may folder entries = (names : List Text) × may (Named folder names) × AllZip (IsEntrySeen may folder) names entries
-
--- The answers of a disk that come from the replies of a system. Why it does not answer is not said.
+-- The answers of a disk that come from the replies of a system: the entries of a folder are by its names, and a file that is read by its
+-- identity is what was opened. Why it does not answer is not said.
 abbrev pub MayBySystem : (Reply → Type 0) → Answer → Type 0
-MayBySystem may (Listing path entries) = IsListed may path entries
+MayBySystem may (Listing path entries) = (names : List Text) × may (Named path names) × AllZip (IsEntrySeen may path) names entries
 MayBySystem may (NoListing path fault) = ⊤
 MayBySystem may (Content path bytes) = IsRead may path
 MayBySystem may (NoContent path fault) = ⊤
-MayBySystem may (OwnContent path identity bytes) = IsOwnRead may path identity
+MayBySystem may (OwnContent path identity bytes) = (node : Node) × may (Opened path (Ok node)) × (is_own node identity ≡ true)
 MayBySystem may (NoOwnContent path identity fault) = ⊤
 MayBySystem may (Looked path shown) = IsLook may path shown
 MayBySystem may (Stepped path shown) = IsStep may path shown

@@ -1,17 +1,20 @@
 -- What an error of the system means for a disk.
-use Rattle.std.specs.Prelude.{◌≡◌, ◌⊎◌, ◌||◌, ℕ, Bool, true, false, List, None, Option, Some, Result, Ok, Err, codes, map, nat_eq, option_map}
+use Rattle.std.specs.Prelude.{◌≡◌, ◌⊎◌, ◌||◌, ℕ, Bool, true, false, List, None, Option, Some, Result, Ok, Err, String, codes, map, nat_eq, option_map}
 use Rattle.std.specs.IoError.{error_kind}
 use Rattle.std.specs.List.{ends_with}
 use Rattle.std.specs.Str.{bytes_eq}
 use Rattle.text_bytes.specs.Kinds.{suffix_of}
 use Rattle.text_bytes.specs.declared.source_file.FileKind.TheVariants.{Hwdb, Rules}
 use Rattle.std.specs.Iterator.{YieldsThen}
+use Rattle.std.specs.declared.alloc.Global.{Global}
 use Rattle.std.specs.declared.io.Error.{Error}
 use Rattle.std.specs.declared.io.ErrorKind.{ErrorKind}
 use Rattle.std.specs.declared.io.ErrorKind.TheVariants as kind
 use Rattle.text_bytes.specs.Text.{Text}
 use Rattle.devdry_files.specs.declared.disk.DiskFault.{DiskFault}
 use Rattle.devdry_files.specs.declared.disk.DiskFault.TheVariants.{Absent, Unreadable, NotUtf8, OutOfMemory}
+use Rattle.devdry_files.specs.declared.fault.ReadFault.{ReadFault}
+use Rattle.devdry_files.specs.declared.fault.ReadFault.TheVariants.{Path, Memory}
 use Rattle.devdry_files.specs.declared.look.Look.{Look}
 use Rattle.devdry_files.specs.declared.look.Look.TheVariants as look
 use Rattle.devdry_files.specs.declared.step.Step.{Step}
@@ -53,16 +56,11 @@ is_opened look.Folder = true
 is_opened look.File = true
 is_opened _ = false
 
--- a path at which what has no end is not opened: one that ends like the names of rules or of database files, and that of the
--- standard input
-abbrev pub is_never_waited_for : Text → Bool
-is_never_waited_for path =
-    (ends_with nat_eq path (suffix_of Rules) || ends_with nat_eq path (suffix_of Hwdb)) || bytes_eq path (codes "/dev/stdin")
-
 -- whether what a look shows at a path is not opened: what is neither a folder nor a file, such as a FIFO, which would be waited for, at
--- such a path
+-- a path that ends like the names of rules or of database files, or at that of the standard input
 abbrev pub is_refused : Look → Text → Bool
-is_refused look.Other path = is_never_waited_for path
+is_refused look.Other path =
+    (ends_with nat_eq path (suffix_of Rules) || ends_with nat_eq path (suffix_of Hwdb)) || bytes_eq path (codes "/dev/stdin")
 is_refused _ path = false
 
 -- What a look that failed shows, or nothing if memory ran out. Nothing that can be read is below a file, and links
@@ -83,3 +81,8 @@ step_unread other = option_map step.NoWay (look_from other)
 abbrev pub IsNamesFault : {S A : Type 0} → (S → Option (Result A Error) → S → Type 0) → S → Error → Type 0
 IsNamesFault {S} {A} next_gives listing error = (error_kind error ≡ kind.OutOfMemory)
     ⊎ ((found : List A) × (later : S) × YieldsThen next_gives listing (map Ok found) (Some (Err error)) later)
+
+-- the fault of a disk at a path
+abbrev pub fault_of : String Global → DiskFault → ReadFault
+fault_of path OutOfMemory = Memory
+fault_of path _ = Path path

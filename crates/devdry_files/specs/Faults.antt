@@ -49,14 +49,11 @@ file_step may at = record { WasDone = (bytes : Text) × may (Content at bytes); 
 abbrev pub file_steps : (Answer → Type 0) → List Text → List ReadStep
 file_steps may paths = map (file_step may) paths
 
--- the step that lists a folder, in which these are the names of files of its kind
-abbrev pub listing_step : (Answer → Type 0) → Folder → List (String Global) → ReadStep
-listing_step may folder names =
-    record { WasDone = AreNamesIn may folder names; FailsAt = λ path. (path ≡ string_bytes folder.path) × IsUnlisted may path }
-
 -- the steps that read a folder in which these are the names of files of its kind: it is listed, and then its files are read
 abbrev pub steps_in : (Answer → Type 0) → Folder → List (String Global) → List ReadStep
-steps_in may folder names = listing_step may folder names ∷ file_steps may (map (path_in folder) (map string_bytes names))
+steps_in may folder names =
+    record { WasDone = AreNamesIn may folder names; FailsAt = λ path. (path ≡ string_bytes folder.path) × IsUnlisted may path }
+    ∷ file_steps may (map (path_in folder) (map string_bytes names))
 
 -- the path is that of the folder, which the disk may say that it can't list, or of the first of its files that it may say
 -- that it can't read
@@ -75,13 +72,10 @@ folder_steps may folders = map (folder_step may) folders
 abbrev pub unnamed_steps : (Answer → Type 0) → Wanted → List ReadStep
 unnamed_steps may w = file_steps may (map (λ f. f.now) w.added.now) ++ folder_steps (MayInside may w.root.now) w.folders.items
 
--- the steps that read what is wanted, in their order: the named files, and then the rest
-abbrev pub wanted_steps : (Answer → Type 0) → Wanted → List ReadStep
-wanted_steps may w = file_steps may (map (λ f. f.now) w.files.now) ++ unnamed_steps may w
-
--- the path is that of the first file or folder, in the order of reading, that the disk may say it can't read or list
+-- the path is that of the first file or folder, in the order of reading, that the disk may say it can't read or list: the named files come
+-- first, and then the rest
 abbrev pub IsFaultyWanted : (Answer → Type 0) → Wanted → Text → Type 0
-IsFaultyWanted may w path = FirstFails (wanted_steps may w) path
+IsFaultyWanted may w path = FirstFails (file_steps may (map (λ f. f.now) w.files.now) ++ unnamed_steps may w) path
 
 -- the path is that of the index that is wanted, which the disk may say that it can't read
 abbrev pub IsFaultyIndex : (Answer → Type 0) → Wanted → Text → Type 0

@@ -49,10 +49,6 @@ abbrev pub is_file_with : Identity → End → Bool
 is_file_with identity (end.File own) = same_identity own identity
 is_file_with identity _ = false
 
--- what a path leads to is the folder at this place, by what it leads to and the place of that
-abbrev pub is_folder_at : Text → End → Text → Bool
-is_folder_at place it at = is_folder it && bytes_eq at place
-
 -- this holds for what a path leads to inside a root, and for its place
 abbrev pub LedTo : (Answer → Type 0) → Text → Text → (End → Text → Type 0) → Type 0
 LedTo may root path Holds = (it : End) × (way : Way) × Comes may root path it way × Holds it (place_in root way)
@@ -63,7 +59,7 @@ IsStillFile may root path identity is_still = LedTo may root path (λ it at. is_
 
 -- whether a path, once the folder at a place was listed, leads to that folder
 abbrev pub IsStillFolder : (Answer → Type 0) → Text → Text → Text → Bool → Type 0
-IsStillFolder may root path place is_still = LedTo may root path (λ it at. is_still ≡ is_folder_at place it at)
+IsStillFolder may root path place is_still = LedTo may root path (λ it at. is_still ≡ (is_folder it && bytes_eq at place))
 
 -- the folder at a way, to which a path still leads once it was listed, has these entries
 pub record ListsFolder (may : Answer → Type 0) (root path : Text) (way : Way) (entries : List Entry) : Type 0 where
@@ -75,10 +71,6 @@ pub record ListsFolder (may : Answer → Type 0) (root path : Text) (way : Way) 
 -- why the folder at a place can't be listed, given whether a path still leads to it
 abbrev pub ListsNoFolder : (Answer → Type 0) → (Text → Bool → Type 0) → Text → DiskFault → Type 0
 ListsNoFolder may Still place fault = may (NoListing place fault) ⊎ ((fault ≡ Unreadable) × Still place false)
-
--- the entries of the folder that a path leads to
-abbrev pub ListsIn : (Answer → Type 0) → Text → Text → List Entry → Type 0
-ListsIn may root path entries = (way : Way) × Comes may root path end.Folder way × ListsFolder may root path way entries
 
 -- why what a path leads to can't be listed
 abbrev pub ListsNotAt : (Answer → Type 0) → (Text → Bool → Type 0) → Text → End → DiskFault → Type 0
@@ -104,10 +96,6 @@ abbrev pub ReadsNotAt : (Answer → Type 0) → (Identity → Bool → Type 0) �
 ReadsNotAt may Still place (end.File identity) fault = ReadsNoFile may Still place identity fault
 ReadsNotAt may Still place end.Null fault = ⊥
 ReadsNotAt may Still place it fault = fault ≡ unreadable it
-
--- what a path leads to is the file with an identity and has these bytes
-abbrev pub ReadsOwn : (Answer → Type 0) → (Identity → Bool → Type 0) → Text → Identity → Text → End → Type 0
-ReadsOwn may Still place identity bytes it = (is_file_with identity it ≡ true) × ReadsFile may Still place identity bytes
 
 -- why what a path leads to can't be read as the file with an identity, given whether it is that
 abbrev pub ReadsNotOwn : Bool → (Answer → Type 0) → (Identity → Bool → Type 0) → Text → Identity → DiskFault → Type 0
@@ -140,26 +128,23 @@ StepsPast may root front name shown = (it : End) × (way : Way) × LeadsOn may r
 abbrev pub StepsBelow : (Answer → Type 0) → Text → Text → Step → Type 0
 StepsBelow may root rest shown = (front : Way) × (name : Text) × (names_in rest ≡ front ++ name ∷ []) × StepsPast may root front name shown
 
--- what a step to a path shows: all names but the last are followed
-abbrev pub StepsIn : (Answer → Type 0) → Text → Text → Step → Type 0
-StepsIn may root path shown = ((rest : Text) × (path ≡ root ++ rest) × StepsBelow may root rest shown)
-    ⊎ (((rest : Text) → path ≢ root ++ rest) × (shown ≡ step.NoWay look.Absent))
-
--- the answers that a disk may give about paths inside a root, given whether that is the root of the running system: then it is asked as it is
+-- The answers that a disk may give about paths inside a root, given whether that is the root of the running system: then it is asked as it
+-- is. All names of a path are followed, but for the last one of a step.
 abbrev pub MayBy : Bool → (Answer → Type 0) → Text → Answer → Type 0
 MayBy true may root answer = may answer
-MayBy false may root (Listing path entries) = ListsIn may root path entries
+MayBy false may root (Listing path entries) = (way : Way) × Comes may root path end.Folder way × ListsFolder may root path way entries
 MayBy false may root (NoListing path fault) =
     (fault ≡ OutOfMemory) ⊎ LedTo may root path (λ it place. ListsNotAt may (IsStillFolder may root path) place it fault)
 MayBy false may root (Content path bytes) = LedTo may root path (λ it place. ReadsAt may (IsStillFile may root path) place it bytes)
 MayBy false may root (NoContent path fault) =
     (fault ≡ OutOfMemory) ⊎ LedTo may root path (λ it place. ReadsNotAt may (IsStillFile may root path) place it fault)
 MayBy false may root (OwnContent path identity bytes) =
-    LedTo may root path (λ it place. ReadsOwn may (IsStillFile may root path) place identity bytes it)
+    LedTo may root path (λ it place. (is_file_with identity it ≡ true) × ReadsFile may (IsStillFile may root path) place identity bytes)
 MayBy false may root (NoOwnContent path identity fault) =
     (fault ≡ OutOfMemory) ⊎ LedTo may root path (λ it place. ReadsNotOwn (is_file_with identity it) may (IsStillFile may root path) place identity fault)
 MayBy false may root (Looked path shown) = LedTo may root path (λ it place. LooksAt may place it shown)
-MayBy false may root (Stepped path shown) = StepsIn may root path shown
+MayBy false may root (Stepped path shown) = ((rest : Text) × (path ≡ root ++ rest) × StepsBelow may root rest shown)
+    ⊎ (((rest : Text) → path ≢ root ++ rest) × (shown ≡ step.NoWay look.Absent))
 
 -- the answers that a disk may give about paths inside a root
 abbrev pub MayInside : (Answer → Type 0) → Text → Answer → Type 0

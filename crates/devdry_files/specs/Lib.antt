@@ -1,3 +1,6 @@
+pub mod Whole
+pub mod Pieces
+pub mod Beside
 pub mod Found
 pub mod Errors
 pub mod Calls
@@ -8,5 +11,4 @@ pub mod Inside
 pub mod Memory
 pub mod Faults
 pub mod FaultTexts
-pub mod FaultsAt
 pub mod AccountFiles

@@ -10,7 +10,6 @@ use Rattle.devdry_files.specs.declared.disk.DiskFault.TheVariants.{Absent, Unrea
 use Rattle.devdry_files.specs.declared.disk.Entry.{Entry}
 use Rattle.devdry_files.specs.declared.look.Look.{Look}
 use Rattle.devdry_files.specs.declared.look.Look.TheVariants as look
-use Rattle.devdry_files.specs.declared.step.Identity.{Identity}
 use Rattle.devdry_files.specs.declared.step.Step.{Step}
 use Rattle.devdry_files.specs.declared.step.Step.TheVariants as step
 use Rattle.devdry_files.specs.declared.memory_disk.MemoryDisk.{MemoryDisk}
@@ -38,56 +37,41 @@ node_at disk path = option_map (λ p. p.disk_node) (find (λ p. bytes_eq p.path.
 -- what is there is listed like this
 abbrev pub ListsAs : Option DiskNode → List Entry → Type 0
 ListsAs (Some (disk_node.Folder own)) entries = map seen_entry entries ≡ map seen_in_memory own.now
-ListsAs (Some (disk_node.File bytes)) entries = ⊥
-ListsAs (Some disk_node.Unreadable) entries = ⊥
-ListsAs (Some (disk_node.Link target)) entries = ⊥
-ListsAs None entries = ⊥
+ListsAs _ entries = ⊥
 
 -- what is there is read like this
 abbrev pub ReadsAs : Option DiskNode → Text → Type 0
-ReadsAs (Some (disk_node.Folder own)) bytes = ⊥
 ReadsAs (Some (disk_node.File own)) bytes = bytes ≡ own.now
-ReadsAs (Some disk_node.Unreadable) bytes = ⊥
-ReadsAs (Some (disk_node.Link target)) bytes = ⊥
-ReadsAs None bytes = ⊥
+ReadsAs _ bytes = ⊥
 
 -- why what is there can't be listed
 abbrev pub ListsNot : Option DiskNode → DiskFault → Type 0
 ListsNot (Some (disk_node.Folder own)) fault = fault ≡ OutOfMemory
-ListsNot (Some (disk_node.File bytes)) fault = fault ≡ Unreadable
-ListsNot (Some disk_node.Unreadable) fault = fault ≡ Unreadable
-ListsNot (Some (disk_node.Link target)) fault = fault ≡ Unreadable
+ListsNot (Some _) fault = fault ≡ Unreadable
 ListsNot None fault = fault ≡ Absent
 
 -- why what is there can't be read
 abbrev pub ReadsNot : Option DiskNode → DiskFault → Type 0
-ReadsNot (Some (disk_node.Folder own)) fault = fault ≡ Unreadable
 ReadsNot (Some (disk_node.File bytes)) fault = fault ≡ OutOfMemory
-ReadsNot (Some disk_node.Unreadable) fault = fault ≡ Unreadable
-ReadsNot (Some (disk_node.Link target)) fault = fault ≡ Unreadable
+ReadsNot (Some _) fault = fault ≡ Unreadable
 ReadsNot None fault = fault ≡ Absent
 
 -- what a look at what is there shows
 abbrev pub look_of : Option DiskNode → Look
 look_of (Some (disk_node.Folder own)) = look.Folder
 look_of (Some (disk_node.File bytes)) = look.File
-look_of (Some disk_node.Unreadable) = look.Failed
-look_of (Some (disk_node.Link target)) = look.Failed
+look_of (Some _) = look.Failed
 look_of None = look.Absent
-
--- the identity of each file
-abbrev pub no_identity : Identity
-no_identity = record { device = 0; number = 0 }
 
 -- a symlink with this target
 abbrev pub LinksTo : Text → Step → Type 0
 LinksTo target (step.Link own) = string_bytes own ≡ target
 LinksTo target _ = ⊥
 
--- what a step to what is there shows
+-- what a step to what is there shows; the identity of each file is the same
 abbrev pub ShowsStep : Option DiskNode → Step → Type 0
 ShowsStep (Some (disk_node.Folder own)) it = it ≡ step.Folder
-ShowsStep (Some (disk_node.File bytes)) it = it ≡ step.File no_identity
+ShowsStep (Some (disk_node.File bytes)) it = it ≡ step.File (record { device = 0; number = 0 })
 ShowsStep (Some disk_node.Unreadable) it = it ≡ step.NoWay look.Failed
 ShowsStep (Some (disk_node.Link target)) it = LinksTo target.now it
 ShowsStep None it = it ≡ step.NoWay look.Absent

@@ -3,13 +3,13 @@ use Rattle.std.specs.Prelude.{◌≡◌, ◌++◌, ℕ, List, [], ◌∷◌, if�
 use Rattle.std.specs.List.{ends_with, flat_map}
 use Rattle.std.specs.Option.{option_copied}
 use Rattle.text_bytes.specs.Text.{Text}
-use Rattle.engine_ends.specs.Folders.{folder_path}
-use Rattle.engine_ends.specs.Kinds.{kind_named, kinds_read, reads_folders_of}
-use Rattle.engine_ends.specs.declared.line.Line.{Line}
+use Rattle.engine_sessions.specs.Folders.{folder_path}
+use Rattle.engine_sessions.specs.Kinds.{kind_named, kinds_read, reads_folders_of}
+use Rattle.engine_sessions.specs.declared.line.Line.{Line}
 use Rattle.text_bytes.specs.Kinds.{suffix_of}
 use Rattle.text_bytes.specs.declared.source_file.FileKind.{FileKind}
 use Rattle.text_bytes.specs.declared.source_file.FileKind.TheVariants.{Hwdb, Rules}
-use Rattle.text_links.specs.Kernels.{last_component}
+use Rattle.text_bytes.specs.Kernels.{last_component}
 use Rattle.devdry_files.specs.declared.places.Folder.{Folder}
 use Rattle.devdry_files.specs.declared.places.Wanted.{Wanted}
 
@@ -32,13 +32,9 @@ abbrev pub folders_of : FileKind → Text → List Place
 folders_of Hwdb root = folder_place Hwdb 0 root ∷ folder_place Hwdb 1 root ∷ []
 folders_of Rules root = folder_place Rules 0 root ∷ folder_place Rules 1 root ∷ folder_place Rules 2 root ∷ folder_place Rules 3 root ∷ []
 
--- the folders of a kind that a line asks for: none if it names what replaces them
-abbrev pub folders_of_kind : Line → FileKind → List Place
-folders_of_kind line kind = if reads_folders_of line kind then folders_of kind line.root.now else []
-
--- the folders that a line asks for: those of each kind that its subcommand reads
+-- the folders that a line asks for: those of each kind that its subcommand reads, but none if it names what replaces them
 abbrev pub folders_for : Line → List Place
-folders_for line = flat_map (folders_of_kind line) (kinds_read line.verb)
+folders_for line = flat_map (λ kind. if reads_folders_of line kind then folders_of kind line.root.now else []) (kinds_read line.verb)
 
 -- the name of a file at a path: what follows the last slash
 abbrev pub name_at : Text → Text

@@ -1,15 +1,14 @@
 //! Reads the files of users and groups that a line names.
-ghost use Rattle.std.specs.Prelude.{◌≡◌, ◌++◌, IfErr, IfOk, false, string_bytes, true};
-ghost use Rattle.text_bytes.specs.Text.{Text};
+ghost use Rattle.std.specs.Prelude.{◌≡◌, ◌++◌, IfErr, IfOk, string_bytes, true};
 ghost use Rattle.devdry_files.specs.AccountFiles.{AreAccountsRead, IsAccountRead, IsFaultyAccount, IsFaultyAccounts, IsFileRead, account_place};
-ghost use Rattle.devdry_files.specs.Faults.{HasPath, IsUnread, IsUnreadable};
+ghost use Rattle.devdry_files.specs.Faults.{HasPath, IsUnreadable};
 ghost use Rattle.devdry_files.specs.Inside.{MayInside};
 
 use crate::disk::{Disk, DiskFault};
 use crate::fault::{ReadFault, fault_at};
 use crate::reading::bytes_at;
 use crate::rooted_disk::RootedDisk;
-use engine_ends::{AccountFile, Line};
+use engine_sessions::{AccountFile, Line};
 use std::alloc::{AllocError, Global};
 
 /// Reads the files of users and groups that a line names, first that of users: all their bytes.
@@ -32,7 +31,7 @@ pub fn read_account_files<D: Disk>(
     Ok(())
 }
 
-/// Reads a file of users or groups, if one is named.
+/// Reads a file of users or groups, if one is named: that of the root inside the root, and another at its own path.
 fn read_account_file<'a, D: Disk>(
     alloc: Global,
     disk: &D,
@@ -45,23 +44,12 @@ fn read_account_file<'a, D: Disk>(
     match named {
         None => Ok(None),
         Some(file) if file.of_root => read_of_root(alloc, disk, root, file),
-        Some(file) => read_named(alloc, disk, file),
+        Some(mut file) => {
+            let path = String::from_str(alloc, file.path)?;
+            file.bytes = bytes_at(alloc, disk, path)?;
+            Ok(Some(file))
+        }
     }
-}
-
-/// Reads a file of users or groups at its own path.
-fn read_named<'a, D: Disk>(
-    alloc: Global,
-    disk: &D,
-    mut file: AccountFile<'a>,
-) -> Result<Option<AccountFile<'a>>, ReadFault>
-    requires { file.of_root ≡ false }
-    ensures file { IfOk result (λ read. (root : Text) → IsFileRead (D.may_answer disk.now) root file.entry read) }
-    ensures fault { IfErr result (HasPath (λ path. (path ≡ file.entry.path.now) × IsUnread (D.may_answer disk.now) path)) }
-{
-    let path = String::from_str(alloc, file.path)?;
-    file.bytes = bytes_at(alloc, disk, path)?;
-    Ok(Some(file))
 }
 
 /// A path below a root.

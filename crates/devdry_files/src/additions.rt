@@ -8,8 +8,7 @@ use crate::disk::Disk;
 use crate::fault::ReadFault;
 use crate::reading::file_at;
 use std::alloc::Global;
-use text_bytes::{Bytes, FileKind, SourceFile};
-use text_links::last_component;
+use text_bytes::{Bytes, FileKind, SourceFile, last_component};
 
 /// What an added file holds, by how its path ends: a database, or else rules.
 pub fn kind_added(path: &str) -> FileKind

@@ -3,7 +3,7 @@ ghost use Rattle.std.specs.Prelude.{◌≡◌, IfOk, map};
 ghost use Rattle.devdry_files.specs.Places.{Wants, folder_place, folders_for, folders_of, place_of};
 
 use crate::places::{Folder, Wanted};
-use engine_ends::{Line, folder_path};
+use engine_sessions::{Line, folder_path};
 use std::alloc::{AllocError, Global};
 use text_bytes::FileKind;
 

@@ -1,6 +1,6 @@
 //! Why files could not be read.
 ghost use Rattle.std.specs.Prelude.{◌≡◌};
-ghost use Rattle.devdry_files.specs.FaultsAt.{fault_of};
+ghost use Rattle.devdry_files.specs.Errors.{fault_of};
 ghost use Rattle.devdry_files.specs.declared.fault.ReadFault.TheVariants.{Memory};
 
 use crate::disk::DiskFault;

@@ -2,7 +2,7 @@
 //!
 //! It shows that the contract of `Disk` can be met, and serves tests that need odd folders.
 ghost use Rattle.std.specs.Prelude.{◌≡◌, IfOk, map};
-ghost use Rattle.devdry_files.specs.Memory.{MayAnswer, ShowsStep, look_of, node_at, seen_entry, seen_in_memory};
+ghost use Rattle.devdry_files.specs.Memory.{MayAnswer, node_at, seen_entry, seen_in_memory};
 
 use crate::disk::{Disk, DiskFault, Entry};
 use crate::look::Look;
@@ -63,48 +63,16 @@ fn node_at<'a>(disk: &MemoryDisk<'a>, path: &str) -> Option<DiskNode<'a>>
     Some(place.disk_node)
 }
 
-/// What a look at what is at a path shows.
-fn look_of(disk_node: Option<DiskNode<'_>>) -> Look
-    ensures { result ≡ look_of disk_node.entry }
-{
-    match disk_node {
-        Some(DiskNode::Folder(_)) => Look::Folder,
-        Some(DiskNode::File(_)) => Look::File,
-        Some(DiskNode::Unreadable | DiskNode::Link(_)) => Look::Failed,
-        None => Look::Absent,
-    }
-}
-
-/// What a step to what is at a path shows.
-fn step_of(alloc: Global, disk_node: Option<DiskNode<'_>>) -> Result<Step, AllocError>
-    ensures { IfOk result (ShowsStep disk_node.entry) }
-{
-    Ok(match disk_node {
-        Some(DiskNode::Folder(_)) => Step::Folder,
-        Some(DiskNode::File(_)) => Step::File(NO_IDENTITY),
-        Some(DiskNode::Unreadable) => Step::NoWay(Look::Failed),
-        Some(DiskNode::Link(target)) => Step::Link(String::from_str(alloc, target)?),
-        None => Step::NoWay(Look::Absent),
-    })
-}
-
-/// A copy of an entry.
-fn copy_of(alloc: Global, entry: &MemoryEntry<'_>) -> Result<Entry, AllocError>
-    ensures { IfOk result (λ copy. seen_entry copy ≡ seen_in_memory entry.now) }
-{
-    Ok(Entry {
-        name: String::from_str(alloc, entry.name)?,
-        is_folder: entry.is_folder,
-    })
-}
-
 /// The entries, copied.
 fn copies_of(alloc: Global, entries: &[MemoryEntry<'_>]) -> Result<Vec<Entry>, AllocError>
     ensures { IfOk result (λ copies. map seen_entry copies.items ≡ map seen_in_memory entries.now) }
 {
     let mut copies = Vec::new(alloc);
     for entry in entries {
-        copies.push(copy_of(alloc, entry)?)?;
+        copies.push(Entry {
+            name: String::from_str(alloc, entry.name)?,
+            is_folder: entry.is_folder,
+        })?;
     }
     Ok(copies)
 }
@@ -133,10 +101,21 @@ impl Disk for MemoryDisk<'_> {
     }
 
     fn look(&self, _alloc: Global, path: &str) -> Result<Look, AllocError> {
-        Ok(look_of(node_at(self, path)))
+        Ok(match node_at(self, path) {
+            Some(DiskNode::Folder(_)) => Look::Folder,
+            Some(DiskNode::File(_)) => Look::File,
+            Some(DiskNode::Unreadable | DiskNode::Link(_)) => Look::Failed,
+            None => Look::Absent,
+        })
     }
 
     fn step(&self, alloc: Global, path: &str) -> Result<Step, AllocError> {
-        step_of(alloc, node_at(self, path))
+        Ok(match node_at(self, path) {
+            Some(DiskNode::Folder(_)) => Step::Folder,
+            Some(DiskNode::File(_)) => Step::File(NO_IDENTITY),
+            Some(DiskNode::Unreadable) => Step::NoWay(Look::Failed),
+            Some(DiskNode::Link(target)) => Step::Link(String::from_str(alloc, target)?),
+            None => Step::NoWay(Look::Absent),
+        })
     }
 }

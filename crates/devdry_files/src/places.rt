@@ -1,5 +1,8 @@
 //! What is to be read: the files that are named, folders, and an index.
+ghost use Rattle.std.specs.Prelude.{◌≡◌, ◌++◌, ◌∷◌, IfOk, string_bytes};
+ghost use Rattle.text_bytes.specs.Names.{slash};
 
+use std::alloc::{AllocError, Global};
 use text_bytes::FileKind;
 
 /// A folder whose files are to be read.
@@ -28,4 +31,14 @@ pub struct Wanted<'b, 'a> {
     pub root: &'a str,
     /// The path of the index, if one is named. It is read last.
     pub index: Option<&'a str>,
+}
+
+/// The path of a name in the folder at a path.
+pub(crate) fn path_in(alloc: Global, folder: &str, name: &str) -> Result<String, AllocError>
+    ensures { IfOk result (λ path. string_bytes path ≡ folder.now ++ slash ∷ name.now) }
+{
+    let mut path = String::from_str(alloc, folder)?;
+    path.push_str("/")?;
+    path.push_str(name)?;
+    Ok(path)
 }

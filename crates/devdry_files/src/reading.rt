@@ -1,6 +1,5 @@
 //! Reads what a line asks for.
-ghost use Rattle.std.specs.Prelude.{◌≡◌, ◌++◌, ◌∷◌, IfErr, IfOk, map, string_bytes};
-ghost use Rattle.text_bytes.specs.Names.{slash};
+ghost use Rattle.std.specs.Prelude.{◌≡◌, IfErr, IfOk, map, string_bytes};
 ghost use Rattle.devdry_files.specs.Answers.Answer.{Content, NoContent};
 ghost use Rattle.devdry_files.specs.Faults.{FirstFails, HasPath, IsFaultyIn, IsFaultyIndex, IsFaultyWanted, IsUnread, file_steps, folder_steps, unnamed_steps};
 ghost use Rattle.devdry_files.specs.Found.{AreInFolder, AreInFolders, AreNamed, AreUnnamed, AreWanted, IsFileAt, IsIndexWanted, path_in};
@@ -9,9 +8,9 @@ use crate::additions::added_files;
 use crate::disk::{Disk, DiskFault};
 use crate::fault::{ReadFault, fault_at};
 use crate::listing::names_in;
-use crate::places::{Folder, Wanted};
+use crate::places::{Folder, Wanted, path_in};
 use crate::rooted_disk::RootedDisk;
-use std::alloc::{AllocError, Global};
+use std::alloc::Global;
 use text_bytes::{Bytes, FileKind, SourceFile};
 
 /// The bytes of the file at a path.
@@ -53,16 +52,6 @@ pub(crate) fn file_at<D: Disk>(
     })
 }
 
-/// The path of a name in a folder.
-fn path_in(alloc: Global, folder: &Folder, name: &str) -> Result<String, AllocError>
-    ensures { IfOk result (λ path. string_bytes path ≡ path_in folder.now name.now) }
-{
-    let mut path = String::from_str(alloc, folder.path.as_str())?;
-    path.push_str("/")?;
-    path.push_str(name)?;
-    Ok(path)
-}
-
 /// The file with a name in a folder.
 fn file_in<D: Disk>(
     alloc: Global,
@@ -75,7 +64,7 @@ fn file_in<D: Disk>(
     ensures fault { IfErr result (HasPath (λ p. (p ≡ path_in folder.now name.now)
         × IsUnread (D.may_answer disk.now) p)) }
 {
-    let path = path_in(alloc, folder, name)?;
+    let path = path_in(alloc, folder.path.as_str(), name)?;
     let name = Bytes::copy_of(alloc, name.as_bytes())?;
     file_at(alloc, disk, path, folder.kind, folder.rank, name)
 }

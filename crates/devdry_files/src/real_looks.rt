@@ -37,21 +37,14 @@ pub(crate) fn shown_by(kind: NodeKind) -> Look
     }
 }
 
-/// What a reply of the system shows.
-fn looked(reply: io::Result<Node>) -> Result<Look, AllocError>
-    ensures { result ≡ ok_or (looked reply) alloc_error }
-{
-    match reply {
-        Ok(node) => Ok(shown_by(node.kind)),
-        Err(error) => failed_look(&error).ok_or(AllocError),
-    }
-}
-
 /// What a look at a path shows before anything is opened.
 pub(crate) fn seen_at<S: System>(system: &S, path: &str) -> Result<Look, AllocError>
     ensures { IfOk result (IsSeen (S.may_reply system.now) path.now) }
 {
-    looked(system.look(path))
+    match system.look(path) {
+        Ok(node) => Ok(shown_by(node.kind)),
+        Err(error) => failed_look(&error).ok_or(AllocError),
+    }
 }
 
 /// What a look shows of what is to be opened: what was opened, or why it could not be.

@@ -3,7 +3,7 @@
 ghost use Rattle.std.specs.IoError.{error_kind};
 ghost use Rattle.std.specs.Path.{path_buf_bytes};
 ghost use Rattle.std.specs.Prelude.{◌≡◌, IfOk, MatchResult, alloc_error, ok_or};
-ghost use Rattle.devdry_files.specs.Calls.{IsLinkStep, IsStep, identity_of, is_link, is_own, step_of};
+ghost use Rattle.devdry_files.specs.Calls.{IsStep, is_link, is_own, step_of};
 ghost use Rattle.devdry_files.specs.Errors.{step_unread};
 ghost use Rattle.devdry_files.specs.Memory.{LinksTo};
 
@@ -14,16 +14,6 @@ use crate::system::{Node, NodeKind, System};
 use std::alloc::AllocError;
 use std::io;
 use std::path::PathBuf;
-
-/// The identity of a file.
-fn identity_of(node: &Node) -> Identity
-    ensures { result ≡ identity_of node.now }
-{
-    Identity {
-        device: node.file_system,
-        number: node.number,
-    }
-}
 
 /// Whether something is a symlink.
 fn is_link(kind: NodeKind) -> bool
@@ -36,9 +26,13 @@ fn is_link(kind: NodeKind) -> bool
 fn step_of(node: &Node) -> Step
     ensures { result ≡ step_of node.now }
 {
+    let identity = Identity {
+        device: node.file_system,
+        number: node.number,
+    };
     match node.kind {
         NodeKind::Folder => Step::Folder,
-        NodeKind::File | NodeKind::Device(NULL_DEVICE) => Step::File(identity_of(node)),
+        NodeKind::File | NodeKind::Device(NULL_DEVICE) => Step::File(identity),
         NodeKind::Link | NodeKind::Device(_) | NodeKind::Other => Step::NoWay(Look::Other),
     }
 }
@@ -67,19 +61,12 @@ fn link_from(read: io::Result<PathBuf>) -> Result<Step, AllocError>
     }
 }
 
-/// What a step shows at a symlink.
-fn link_at<S: System>(system: &S, path: &str) -> Result<Step, AllocError>
-    ensures { IfOk result (IsLinkStep (S.may_reply system.now) path.now) }
-{
-    link_from(system.link(path))
-}
-
 /// What is at a path, with no symlink followed at its end.
 pub(crate) fn step_at<S: System>(system: &S, path: &str) -> Result<Step, AllocError>
     ensures { IfOk result (IsStep (S.may_reply system.now) path.now) }
 {
     match system.look_last(path) {
-        Ok(node) if is_link(node.kind) => link_at(system, path),
+        Ok(node) if is_link(node.kind) => link_from(system.link(path)),
         Ok(node) => Ok(step_of(&node)),
         Err(error) => failed_look(&error).map(Step::NoWay).ok_or(AllocError),
     }

@@ -51,32 +51,10 @@ fn kind_of(metadata: &Metadata, device: Option<u64>) -> NodeKind
     } else if metadata.is_symlink() {
         NodeKind::Link
     } else {
-        kind_by(device)
-    }
-}
-
-/// The kind of what is no folder, no regular file and no symlink.
-fn kind_by(device: Option<u64>) -> NodeKind
-    ensures { result ≡ kind_by device }
-{
-    match device {
-        Some(number) => NodeKind::Device(number),
-        None => NodeKind::Other,
-    }
-}
-
-/// What the system says of something.
-fn node_of(metadata: &Metadata) -> Node {
-    let is_device = metadata.file_type().is_char_device();
-    let device = if is_device {
-        Some(metadata.rdev())
-    } else {
-        None
-    };
-    Node {
-        kind: kind_of(metadata, device),
-        file_system: metadata.dev(),
-        number: metadata.ino(),
+        match device {
+            Some(number) => NodeKind::Device(number),
+            None => NodeKind::Other,
+        }
     }
 }
 
@@ -86,20 +64,28 @@ fn node_from(looked: io::Result<Metadata>) -> io::Result<Node>
     ensures untold { IfErr looked (λ error. result ≡ Err error) }
 {
     match looked {
-        Ok(metadata) => Ok(node_of(&metadata)),
+        Ok(metadata) => {
+            let is_device = metadata.file_type().is_char_device();
+            let device = if is_device {
+                Some(metadata.rdev())
+            } else {
+                None
+            };
+            Ok(Node {
+                kind: kind_of(&metadata, device),
+                file_system: metadata.dev(),
+                number: metadata.ino(),
+            })
+        }
         Err(error) => Err(error),
     }
 }
 
-/// What the system says of what was opened, with the open file.
-fn opened<F: OpenFile + Drop>(file: F) -> io::Result<Opened<F>> {
-    let node = node_from(again(|| file.metadata()))?;
-    Ok(Opened { node, file })
-}
-
 /// Opens what is at a path, and looks at what was opened.
 fn open<R: Files>(rt: &R, path: &str) -> io::Result<Opened<R::File>> {
-    opened(again(|| File::open(rt, path))?)
+    let file = again(|| File::open(rt, path))?;
+    let node = node_from(again(|| file.metadata()))?;
+    Ok(Opened { node, file })
 }
 
 /// A listing of the folder at a path.

@@ -2,8 +2,8 @@
 ghost use Rattle.std.specs.Prelude.{◌≡◌, ◌≢◌, ◌++◌, ◌∷◌, ◌⊎◌, [], IfErr, IfOk, MatchOption, false, map, string_bytes};
 ghost use Rattle.std.specs.List.{AllZip};
 ghost use Rattle.text_bytes.specs.Text.{Text};
-ghost use Rattle.devdry_files.specs.Answers.Answer.{Content, NoContent, NoListing, NoOwnContent, OwnContent, Looked, Stepped};
-ghost use Rattle.devdry_files.specs.Inside.{IsEntryIn, IsStillFile, IsStillFolder, ListsFolder, ListsIn, ListsNoFolder, MayBy, MayInside};
+ghost use Rattle.devdry_files.specs.Answers.Answer.{Content, Listing, NoContent, NoListing, NoOwnContent, OwnContent, Looked, Stepped};
+ghost use Rattle.devdry_files.specs.Inside.{IsEntryIn, IsStillFile, IsStillFolder, ListsFolder, ListsNoFolder, MayBy, MayInside};
 ghost use Rattle.devdry_files.specs.Inside.{ReadsFile, ReadsNoFile};
 ghost use Rattle.devdry_files.specs.Inside.{is_file_with, is_folder, is_own_root, unreadable};
 ghost use Rattle.devdry_files.specs.declared.disk.DiskFault.TheVariants.{OutOfMemory};
@@ -242,7 +242,7 @@ fn list_in<D: Disk>(
     root: &str,
     path: &str,
 ) -> Result<Vec<Entry>, DiskFault>
-    ensures listed { IfOk result (λ entries. ListsIn (D.may_answer disk.now) root.now path.now entries.items) }
+    ensures listed { IfOk result (λ entries. MayBy false (D.may_answer disk.now) root.now (Listing path.now entries.items)) }
     ensures fault { IfErr result (λ fault. MayBy false (D.may_answer disk.now) root.now (NoListing path.now fault)) }
 {
     let Found { end, way } = found_at(alloc, disk, root, path)?;

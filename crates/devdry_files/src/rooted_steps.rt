@@ -9,23 +9,6 @@ use crate::walking::{is_here, is_up, lead, names_of, path_of};
 use std::alloc::{AllocError, Global};
 use std::collections::VecDeque;
 
-/// What is at a name in a folder inside a root.
-fn step_to<D: Disk>(
-    alloc: Global,
-    disk: &D,
-    root: &str,
-    way: &[String],
-    name: &str,
-) -> Result<Step, AllocError>
-    ensures { IfOk result (StepsAt (D.may_answer disk.now) root.now (map string_bytes way.now) name.now End.Folder) }
-{
-    if is_here(name) || is_up(name) {
-        return Ok(Step::Folder);
-    }
-    let path = path_of(alloc, root, way, name)?;
-    disk.step(alloc, path.as_str())
-}
-
 /// What is at a name in what a way leads to.
 fn step_at<D: Disk>(
     alloc: Global,
@@ -38,7 +21,11 @@ fn step_at<D: Disk>(
     ensures { IfOk result (StepsAt (D.may_answer disk.now) root.now (map string_bytes way.now) name.now end) }
 {
     match end {
-        End::Folder => step_to(alloc, disk, root, way, name),
+        End::Folder if is_here(name) || is_up(name) => Ok(Step::Folder),
+        End::Folder => {
+            let path = path_of(alloc, root, way, name)?;
+            disk.step(alloc, path.as_str())
+        }
         End::NoWay(look) => Ok(Step::NoWay(look)),
         End::File(_) | End::Null | End::OddLink => Ok(Step::NoWay(Look::Other)),
     }

@@ -2,8 +2,8 @@
 //!
 //! The path is followed name by name, as `udevadm --root` does it: a symlink to an absolute path begins at the root
 //! again, and `..` stops there. So a walk never leaves the root.
-ghost use Rattle.std.specs.Prelude.{◌≡◌, ◌++◌, ◌∷◌, [], ℕ, List, None, IfOk, IfSome, OnOk, false, map, string_bytes, suc};
-ghost use Rattle.devdry_files.specs.Walks.{Enters, EntersBy, Leads, LeadsOn, Way, below, is_absolute, is_here, is_up, names_in};
+ghost use Rattle.std.specs.Prelude.{◌≡◌, ◌++◌, ◌∷◌, [], ℕ, None, IfOk, IfSome, OnOk, false, map, string_bytes, suc};
+ghost use Rattle.devdry_files.specs.Walks.{Enters, Leads, LeadsOn, Way, is_absolute, is_here, is_up, names_in};
 ghost use Rattle.devdry_files.specs.Walks.{next_by, place_by, place_in, settled};
 ghost use Rattle.devdry_files.specs.declared.step.End.{End as Came};
 
@@ -120,23 +120,6 @@ pub(crate) fn path_of(
     Ok(path)
 }
 
-/// Follows a name that is neither `.` nor `..` from a place to what is there.
-fn enter_name<D: Disk>(
-    alloc: Global,
-    disk: &D,
-    root: &str,
-    way: &mut Vec<String>,
-    name: String,
-) -> Result<Next, AllocError>
-    ensures { IfOk result (λ next. EntersBy false false (D.may_answer disk.now) root.now (map string_bytes way.old.items)
-        (string_bytes name) next (map string_bytes way.new.items)) }
-{
-    let path = path_of(alloc, root, way, name.as_str())?;
-    let step = disk.step(alloc, path.as_str())?;
-    go_on(way, name, &step)?;
-    Ok(next_by(step))
-}
-
 /// Follows a name from a place to what is there.
 fn enter<D: Disk>(
     alloc: Global,
@@ -155,25 +138,22 @@ fn enter<D: Disk>(
         way.pop();
         return Ok(Next::Further);
     }
-    enter_name(alloc, disk, root, way, name)
+    let path = path_of(alloc, root, way, name.as_str())?;
+    let step = disk.step(alloc, path.as_str())?;
+    go_on(way, name, &step)?;
+    Ok(next_by(step))
 }
 
-/// What names below a file, or below nothing, lead to.
-fn below(end: End) -> End
-    ensures { result ≡ below end }
-{
-    match end {
-        End::NoWay(look) => End::NoWay(look),
-        _ => End::NoWay(Look::Other),
-    }
-}
-
-/// What a path leads to whose way ends before these names.
+/// What a path leads to whose way ends before these names: nothing is below a file.
 #[tactic(auto, using(crate::proofs::Ways::settled_at_last, crate::proofs::Ways::settled_before))]
 fn settled(ahead: &VecDeque<String>, end: End) -> End
     ensures { result ≡ settled (map string_bytes ahead.now.items) end }
 {
-    if ahead.is_empty() { end } else { below(end) }
+    match end {
+        _ if ahead.is_empty() => end,
+        End::NoWay(look) => End::NoWay(look),
+        _ => End::NoWay(Look::Other),
+    }
 }
 
 /// The names of a path with others after them.

@@ -22,7 +22,7 @@ use Rattle.text_bytes.specs.declared.source_file.FileKind.TheVariants as kinds
 use Rattle.text_bytes.specs.declared.source_file.SourceFile.{SourceFile}
 use Rattle.text_bytes.proofs.Placing.{Above, above_further, order, placed, put-rises, rises_after, rises_none}
 use Rattle.text_tables.specs.Texts.{same_text}
-use Rattle.engine_ends.specs.Kinds.{same_kind}
+use Rattle.engine_sessions.specs.Kinds.{same_kind}
 use Rattle.devdry_folders.specs.Laws.{AreOneFile, RanksRise, files_of_kind}
 use Rattle.devdry_folders.specs.SightStatus.{AreByName, counting, sights_of}
 use Rattle.devdry_folders.specs.Unread.{file_of_met, file_of_sight, files_of, files_of_visit, is_file}

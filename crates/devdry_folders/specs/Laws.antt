@@ -9,7 +9,7 @@ use Rattle.text_bytes.specs.declared.source_file.FileKind.TheVariants.{Hwdb}
 use Rattle.text_bytes.specs.declared.source_file.SourceFile.{SourceFile}
 use Rattle.text_bytes.specs.Texts.{is_empty}
 use Rattle.text_tables.specs.Texts.{is_among}
-use Rattle.engine_ends.specs.Kinds.{same_kind}
+use Rattle.engine_sessions.specs.Kinds.{same_kind}
 use Rattle.devdry_folders.specs.Nothing.{has_unread}
 use Rattle.devdry_folders.specs.Indexes.{index_bytes}
 use Rattle.devdry_folders.specs.Unread.{files_of, is_one_of}

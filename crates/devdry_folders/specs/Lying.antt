@@ -2,7 +2,7 @@
 use Rattle.std.specs.Prelude.{◌≡◌, ◌++◌, ◌⊎◌, ℕ, List, [], filter, map, string_bytes}
 use Rattle.text_bytes.specs.Text.{Text}
 use Rattle.text_bytes.specs.declared.source_file.FileKind.TheVariants.{Rules}
-use Rattle.engine_ends.specs.Folders.{folder_path}
+use Rattle.engine_sessions.specs.Folders.{folder_path}
 use Rattle.devdry_files.specs.Answers.{Answer}
 use Rattle.devdry_files.specs.Answers.Answer.{Listing, NoListing}
 use Rattle.devdry_files.specs.Found.{counts}

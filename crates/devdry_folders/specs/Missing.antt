@@ -4,8 +4,8 @@ use Rattle.std.specs.List.{list_any}
 use Rattle.text_bytes.specs.Text.{Text}
 use Rattle.text_bytes.specs.declared.source_file.FileKind.{FileKind}
 use Rattle.text_bytes.specs.declared.source_file.FileKind.TheVariants.{Hwdb}
-use Rattle.engine_ends.specs.Kinds.{kinds_read, reads_folders_of}
-use Rattle.engine_ends.specs.declared.line.Line.{Line}
+use Rattle.engine_sessions.specs.Kinds.{kinds_read, reads_folders_of}
+use Rattle.engine_sessions.specs.declared.line.Line.{Line}
 use Rattle.devdry_files.specs.Answers.{Answer}
 use Rattle.devdry_files.specs.Answers.Answer.{Looked}
 use Rattle.devdry_files.specs.Inside.{MayInside}

@@ -8,8 +8,8 @@ use Rattle.text_bytes.specs.Kinds.{suffix_of}
 use Rattle.text_bytes.specs.Names.{newline}
 use Rattle.text_bytes.specs.declared.source_file.FileKind.{FileKind}
 use Rattle.text_bytes.specs.declared.source_file.FileKind.TheVariants.{Hwdb, Rules}
-use Rattle.engine_ends.specs.Kinds.{reads_folders_of}
-use Rattle.engine_ends.specs.declared.line.Line.{Line}
+use Rattle.engine_sessions.specs.Kinds.{reads_folders_of}
+use Rattle.engine_sessions.specs.declared.line.Line.{Line}
 use Rattle.devdry_files.specs.Answers.{Answer}
 use Rattle.devdry_files.specs.Answers.Answer.{Listing, NoListing, Stepped}
 use Rattle.devdry_files.specs.Found.{counts}

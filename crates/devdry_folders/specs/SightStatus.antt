@@ -10,7 +10,7 @@ use Rattle.text_bytes.specs.Names.{newline}
 use Rattle.text_bytes.specs.declared.source_file.FileKind.{FileKind}
 use Rattle.text_bytes.specs.declared.source_file.FileKind.TheVariants.{Hwdb, Rules}
 use Rattle.text_tables.specs.Texts.{same_text}
-use Rattle.engine_ends.specs.Kinds.{same_kind}
+use Rattle.engine_sessions.specs.Kinds.{same_kind}
 use Rattle.devdry_folders.specs.Reasons.{reason_text}
 use Rattle.devdry_folders.specs.Unread.{is_file}
 use Rattle.devdry_folders.specs.declared.sights.Met.{Met}

@@ -5,10 +5,10 @@ use Rattle.std.specs.Option.{option_copied, option_to_list}
 use Rattle.text_bytes.specs.Text.{Text}
 use Rattle.text_bytes.specs.declared.source_file.FileKind.{FileKind}
 use Rattle.text_bytes.specs.declared.source_file.SourceFile.{SourceFile}
-use Rattle.engine_ends.specs.Kinds.{kind_named, kinds_read}
-use Rattle.engine_ends.specs.Readers.{is_for_people}
-use Rattle.engine_ends.specs.declared.line.Line.{Line}
-use Rattle.engine_ends.specs.declared.line.Verb.{Verb}
+use Rattle.engine_sessions.specs.Kinds.{kind_named, kinds_read}
+use Rattle.engine_sessions.specs.Readers.{is_for_people}
+use Rattle.engine_sessions.specs.declared.line.Line.{Line}
+use Rattle.engine_sessions.specs.declared.line.Verb.{Verb}
 use Rattle.devdry_files.specs.Answers.{Answer}
 use Rattle.devdry_files.specs.Places.{Wants}
 use Rattle.devdry_files.specs.declared.places.Wanted.{Wanted}

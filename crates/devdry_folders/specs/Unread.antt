@@ -6,7 +6,7 @@ use Rattle.text_bytes.specs.Escapes.{escape_text}
 use Rattle.text_bytes.specs.Names.{newline}
 use Rattle.text_bytes.specs.declared.source_file.FileKind.{FileKind}
 use Rattle.text_bytes.specs.declared.source_file.SourceFile.{SourceFile}
-use Rattle.engine_ends.specs.Kinds.{same_kind}
+use Rattle.engine_sessions.specs.Kinds.{same_kind}
 use Rattle.devdry_folders.specs.Reasons.{advice_on, reason_text, wrong_by}
 use Rattle.devdry_folders.specs.declared.reasons.Reason.{Reason}
 use Rattle.devdry_folders.specs.declared.sights.Met.{Met}

@@ -10,7 +10,7 @@ use crate::reading::survey_for;
 use crate::reasons::{Reason, push_advice};
 use crate::sights::{Met, Sight, Spot, Survey, Visit};
 use devdry_files::Disk;
-use engine_ends::Line;
+use engine_sessions::Line;
 use std::alloc::{AllocError, Global};
 
 /// Why what is met can't be read, if it can't.

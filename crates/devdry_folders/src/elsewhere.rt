@@ -1,13 +1,13 @@
 //! Files that are where none is read: below `/lib`, if that is not a symlink, as it mostly is to `/usr/lib`.
 ghost use Rattle.std.specs.Prelude.{◌≡◌, ◌++◌, ◌⊎◌, [], IfErr, IfOk, codes, filter, is_some};
-ghost use Rattle.engine_ends.specs.Kinds.{reads_folders_of};
+ghost use Rattle.engine_sessions.specs.Kinds.{reads_folders_of};
 ghost use Rattle.devdry_files.specs.Answers.Answer.{Listing, NoListing, Stepped};
 ghost use Rattle.devdry_files.specs.declared.disk.DiskFault.TheVariants as faults;
 ghost use Rattle.devdry_folders.specs.Meetings.{target_of};
 ghost use Rattle.devdry_folders.specs.Nothing.{AreElsewhere, AreElsewhereOf, IsCounted, IsElsewhere, unmerged_folder};
 
 use devdry_files::{Disk, DiskFault, Entry, Step, counts};
-use engine_ends::Line;
+use engine_sessions::Line;
 use std::alloc::{AllocError, Global};
 use text_bytes::{Bytes, FileKind};
 

@@ -9,7 +9,7 @@ use crate::meetings::file_met_at;
 use crate::sights::{Met, Sight};
 use crate::unread::{is_file, push_on_met};
 use devdry_files::Disk;
-use engine_ends::Line;
+use engine_sessions::Line;
 use std::alloc::{AllocError, Global};
 use text_bytes::Bytes;
 

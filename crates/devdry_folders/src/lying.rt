@@ -3,11 +3,11 @@ ghost use Rattle.std.specs.Prelude.{◌≡◌, ◌++◌, IfOk, filter, map, stri
 ghost use Rattle.devdry_files.specs.Found.{counts};
 ghost use Rattle.devdry_files.specs.Inside.{MayInside};
 ghost use Rattle.devdry_folders.specs.Lying.{AreLying, AreLyingAt, AreLyingIn, paths_of};
-ghost use Rattle.engine_ends.specs.Folders.{folder_path};
+ghost use Rattle.engine_sessions.specs.Folders.{folder_path};
 
 use crate::visiting::path_below;
 use devdry_files::{Disk, DiskFault, Entry, RootedDisk, counts};
-use engine_ends::folder_path;
+use engine_sessions::folder_path;
 use std::alloc::{AllocError, Global};
 use text_bytes::{Bytes, FileKind};
 

@@ -1,7 +1,7 @@
 //! What is reported where no file was found that a run needs.
 ghost use Rattle.std.specs.Prelude.{◌≡◌, IfOk, MatchBool};
 ghost use Rattle.std.specs.List.{list_any};
-ghost use Rattle.engine_ends.specs.Kinds.{reads_folders_of};
+ghost use Rattle.engine_sessions.specs.Kinds.{reads_folders_of};
 ghost use Rattle.devdry_folders.specs.Missing.{AreMissing, IsLineOnRoot, IsNothing, has_needed, has_own_files, looks_at_root, root_line};
 
 use crate::elsewhere::files_elsewhere;
@@ -10,7 +10,7 @@ use crate::nothing::{nothing_lines, push_line};
 use crate::sights::{Survey, Visit};
 use crate::unread::{has_files, is_one_of};
 use devdry_files::{Disk, Look, RootedDisk};
-use engine_ends::Line;
+use engine_sessions::Line;
 use std::alloc::{AllocError, Global};
 use text_bytes::FileKind;
 

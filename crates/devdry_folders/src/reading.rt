@@ -14,7 +14,7 @@ use crate::sights::{Survey, Visit};
 use crate::unread::{is_one_of, unread_lines};
 use crate::visiting::visits;
 use devdry_files::{Disk, wanted};
-use engine_ends::{Line, Verb};
+use engine_sessions::{Line, Verb};
 use std::alloc::{AllocError, Global};
 use text_bytes::{Bytes, FileKind, SourceFile};
 

@@ -5,7 +5,7 @@ ghost use Rattle.devdry_folders.specs.Unread.{unread_line, unread_lines, unread_
 
 use crate::reasons::{Reason, push_advice, push_escaped, push_reason};
 use crate::sights::{Met, Scan, Sight, Spot, Visit};
-use engine_ends::same_kind;
+use engine_sessions::same_kind;
 use std::alloc::{AllocError, Global};
 use text_bytes::FileKind;
 

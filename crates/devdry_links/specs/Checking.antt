@@ -1,13 +1,17 @@
--- The .link files and drop-ins of a root that are checked.
-use Rattle.std.specs.Prelude.{◌≡◌, ◌&&◌, ◌++◌, Bool, false, List, [], codes, filter, not, Option, Some, None}
+-- The .link files and drop-ins that are checked.
+use Rattle.std.specs.Prelude.{◌≡◌, ◌&&◌, ◌++◌, ◌==◌, Bool, false, List, [], MatchBool, codes, filter, not, Option, Some, None, vec_len}
 use Rattle.text_bytes.specs.Text.{Text}
 use Rattle.text_bytes.specs.FileOrder.{ordered}
 use Rattle.text_bytes.specs.Names.{dot, slash}
 use Rattle.text_bytes.specs.Texts.{begins_with, is_empty, split_once}
 use Rattle.text_bytes.specs.declared.source_file.SourceFile.{SourceFile}
 use Rattle.link_files.specs.Files.{is_masked}
+use Rattle.engine_sessions.specs.declared.line.Line.{Line}
 use Rattle.devdry_files.specs.Answers.{Answer}
+use Rattle.devdry_files.specs.Inside.{MayInside}
+use Rattle.devdry_folders.specs.Surveys.{AreFilesReadSome}
 use Rattle.devdry_folders.specs.Unread.{least_status}
+use Rattle.devdry_folders.specs.declared.reading.ReadSome.{ReadSome}
 use Rattle.devdry_links.specs.Reading.{IsSurvey}
 use Rattle.devdry_links.specs.declared.checking.LinksToCheck.{LinksToCheck}
 use Rattle.devdry_links.specs.declared.survey.LinkSurvey.{LinkSurvey}
@@ -36,3 +40,15 @@ pub record AreLinksToCheck (may : Answer → Type 0) (root : Text) (links : Link
   pub files : links.files.items ≡ files_checked survey
   pub lines : links.report.lines.items ≡ survey.unread.items
   pub least : links.report.least ≡ least_status survey.unread.items []
+
+-- the files are those that the line names, as far as they can be read
+pub record AreNamed (may : Answer → Type 0) (line : Line) (links : LinksToCheck) : Type 0 where
+  pub some : ReadSome
+  pub are_read : AreFilesReadSome may line some
+  pub files : links.files ≡ some.files
+  pub report : links.report ≡ some.report
+
+-- the files are those of the folders inside the line's root if the line names none, and otherwise those that it names
+abbrev pub AreLinksFor : (Answer → Type 0) → Line → LinksToCheck → Type 0
+AreLinksFor may line links =
+    MatchBool (vec_len line.files == 0) (AreLinksToCheck (MayInside may line.root.now) line.root.now links) (AreNamed may line links)

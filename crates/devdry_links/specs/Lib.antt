@@ -1,5 +1,12 @@
+pub mod Unseen
+pub mod Asked
+pub mod Notes
+pub mod Ranks
+pub mod Lying
+pub mod Told
+pub mod Naming
+pub mod ImportReading
 pub mod Places
 pub mod Visits
 pub mod Reading
 pub mod Checking
-pub mod Running

@@ -1,11 +1,11 @@
-//! The `.link` files and drop-ins of a root that are checked.
+//! The `.link` files and drop-ins that are checked.
 ghost use Rattle.std.specs.Prelude.{◌≡◌, ◌≤◌, IfOk, filter, option_map};
-ghost use Rattle.devdry_files.specs.Inside.{MayInside};
-ghost use Rattle.devdry_links.specs.Checking.{AreLinksToCheck, counts, counts_as_drop_in, is_shown};
+ghost use Rattle.devdry_links.specs.Checking.{AreLinksFor, AreLinksToCheck, AreNamed, counts, counts_as_drop_in, is_shown};
 
 use crate::survey::survey;
 use devdry_files::{Disk, RootedDisk};
-use devdry_folders::{Report, least_status};
+use devdry_folders::{Report, least_status, read_files_that_can};
+use engine_sessions::Line;
 use link_files::is_masked;
 use std::alloc::{AllocError, Global};
 use text_bytes::{SourceFile, begins_with, order_files, split_once};
@@ -59,12 +59,8 @@ fn counting_drop_ins(mut files: Vec<SourceFile>) -> Vec<SourceFile>
     files
 }
 
-/// The files to check, as a disk answers.
-fn read_to_check_of<D: Disk>(
-    alloc: Global,
-    disk: &D,
-    root: &str,
-) -> Result<LinksToCheck, AllocError>
+/// The files of a root to check, as a disk answers.
+fn read_of_root<D: Disk>(alloc: Global, disk: &D, root: &str) -> Result<LinksToCheck, AllocError>
     ensures read { IfOk result (AreLinksToCheck (D.may_answer disk.now) root.now) }
     ensures least { IfOk result (λ links. links.report.least ≤ 3) }
 {
@@ -82,16 +78,33 @@ fn read_to_check_of<D: Disk>(
     })
 }
 
-/// Reads the `.link` files of a root that count and then their drop-ins, to be checked: they are looked for as
-/// `read_link_files` does, and what can't be read is reported in the same way. There is an error only if memory runs out.
+/// Reads the files that a line names.
+fn read_named<D: Disk>(alloc: Global, disk: &D, line: &Line<'_>) -> Result<LinksToCheck, AllocError>
+    ensures read { IfOk result (AreNamed (D.may_answer disk.now) line.now) }
+    ensures least { IfOk result (λ links. links.report.least ≤ 3) }
+{
+    let some = read_files_that_can(alloc, disk, line)?;
+    Ok(LinksToCheck {
+        files: some.files,
+        report: some.report,
+    })
+}
+
+/// Reads the `.link` files and drop-ins that a line checks: those that it names, and otherwise those inside its root that count,
+/// which are looked for as `read_link_files` does. What can't be read is reported in the same way. There is an error only
+/// if memory runs out.
 pub fn read_links_to_check<D: Disk>(
     alloc: Global,
     disk: &D,
-    root: &str,
+    line: &Line<'_>,
 ) -> Result<LinksToCheck, AllocError>
-    ensures read { IfOk result (AreLinksToCheck (MayInside (D.may_answer disk.now) root.now) root.now) }
+    ensures read { IfOk result (AreLinksFor (D.may_answer disk.now) line.now) }
     ensures least { IfOk result (λ links. links.report.least ≤ 3) }
 {
-    let inside = RootedDisk::new(disk, root);
-    read_to_check_of(alloc, &inside, root)
+    if line.files.is_empty() {
+        let inside = RootedDisk::new(disk, line.root);
+        read_of_root(alloc, &inside, line.root)
+    } else {
+        read_named(alloc, disk, line)
+    }
 }

@@ -1,12 +1,12 @@
 -- What comes of the words of a command line.
 use Rattle.std.specs.Prelude.{◌≡◌, ℕ, List, []}
 use Rattle.text_bytes.specs.Text.{Text}
-use Rattle.engine_ends.specs.Delivery.{Delivers, ReportsFailure, RunOutcome}
-use Rattle.engine_ends.specs.Streams.{Streams, outputs}
+use Rattle.engine_sessions.specs.Delivery.{Delivers, ReportsFailure, RunOutcome}
+use Rattle.engine_sessions.specs.Streams.{Streams, outputs}
 use Rattle.lsp_server.specs.Replies.{after, reply}
 use Rattle.lsp_server.specs.Servers.{first}
-use Rattle.lsp_sessions.specs.Runs.{ServesEditor}
-use Rattle.lsp_sessions.specs.Servers.{acting}
+use Rattle.lsp_server.specs.Runs.{ServesEditor}
+use Rattle.lsp_server.specs.AnyServer.{acting}
 use Rattle.devdry_lsp.specs.Words.{asked_of}
 use Rattle.devdry_lsp.specs.declared.words.Asked.{Asked}
 use Rattle.devdry_lsp.specs.declared.words.Asked.TheVariants.{Help, Serve, Unknown, Version}

@@ -10,8 +10,8 @@ mod running;
 mod words;
 
 use crate::running::{report_arguments_fault, run_words};
-use devdry_input::Again;
-use engine_ends::{SinkOver, SourceOver};
+use devdry_files::Again;
+use engine_sessions::{SinkOver, SourceOver};
 use std::process::ExitCode;
 use std::rt::Env;
 use std::{env, io};

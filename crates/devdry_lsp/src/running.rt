@@ -1,13 +1,12 @@
 //! The way from words to a status.
 ghost use Rattle.std.specs.IoError.{error_kind};
 ghost use Rattle.std.specs.Prelude.{◌≡◌, map, string_bytes};
-ghost use Rattle.engine_ends.specs.Delivery.{ReportsFailure, out_of_memory};
+ghost use Rattle.engine_sessions.specs.Delivery.{ReportsFailure, out_of_memory};
 ghost use Rattle.devdry_lsp.specs.Runs.{RunsWords, no_text};
 
 use crate::words::{Asked, asked_of};
-use engine_ends::{Sink, Source, deliver, report_failure, report_out_of_memory};
-use lsp_server::Server;
-use lsp_sessions::serve_editor;
+use engine_sessions::{Sink, Source, deliver, report_failure, report_out_of_memory};
+use lsp_server::{Server, serve_editor};
 use std::alloc::Global;
 use std::io::{self, ErrorKind};
 

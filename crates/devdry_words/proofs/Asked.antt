@@ -13,7 +13,7 @@ use Rattle.clap.specs.Simple.{Shape, built, entered, is_simple, label_of, names_
 use Rattle.devdry_words.specs.Commands.{devdry}
 use Rattle.devdry_words.specs.Named.{IsSubcommandName, NamesSubcommand}
 use Rattle.devdry_words.specs.declared.subcommands.Subcommand.TheVariants.{Run, Files, Compare, Explain}
-use Rattle.engine_ends.specs.declared.line.Verb.TheVariants.{Update, Query, Verify, Events, Mend}
+use Rattle.engine_sessions.specs.declared.line.Verb.TheVariants.{Update, Query, Verify, Events, Mend}
 use Rattle.devdry_words.proofs.Stops.{StopsWell, neither, walk_stops}
 
 pub devdry_is_simple : is_simple devdry ≡ true

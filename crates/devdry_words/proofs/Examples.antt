@@ -13,18 +13,18 @@ use Rattle.clap.specs.Faults.{fault_of}
 use Rattle.clap.specs.declared.error.kind.ErrorKind.TheVariants as kind
 use Rattle.clap.proofs.OnLiterals.{clap_on_literals}
 use Rattle.devdry_words.specs.Commands.{devdry}
-use Rattle.engine_ends.specs.declared.line.Color.{Color}
-use Rattle.engine_ends.specs.declared.line.Color.TheVariants.{Auto, Always, Never}
-use Rattle.engine_ends.specs.declared.line.Format.{Format}
-use Rattle.engine_ends.specs.declared.line.Format.TheVariants.{Plain, Gcc, Github, Gitlab, Json, Sarif, Human, HumanInColor}
+use Rattle.engine_sessions.specs.declared.line.Color.{Color}
+use Rattle.engine_sessions.specs.declared.line.Color.TheVariants.{Auto, Always, Never}
+use Rattle.engine_sessions.specs.declared.line.Format.{Format}
+use Rattle.engine_sessions.specs.declared.line.Format.TheVariants.{Plain, Gcc, Github, Gitlab, Json, Sarif, Human, HumanInColor}
 use Rattle.devdry_words.specs.declared.refusals.Refusal.{Refusal}
-use Rattle.engine_ends.specs.declared.line.Verb.TheVariants.{Update, Verify, Events}
+use Rattle.engine_sessions.specs.declared.line.Verb.TheVariants.{Update, Verify, Events}
 use Rattle.devdry_words.specs.Lines.{color_name, color_named, color_of, files_of, format_name, format_named, format_of, is_set_or_every, profile_of}
 use Rattle.text_bytes.specs.Texts.{split_once}
 use Rattle.text_bytes.specs.declared.profile.Profile.{Profile}
 use Rattle.text_bytes.specs.declared.profile.Profile.TheVariants.{Manual, Udev}
 use Rattle.devdry_words.specs.Refusals.{refusal_of}
-use Rattle.devdry_options.specs.Names.{flag_names, repeated_names, valued_names}
+use Rattle.engine_sessions.specs.Names.{flag_names, repeated_names, valued_names}
 use Rattle.devdry_words.specs.Options.{options_in, with_options}
 use Rattle.devdry_words.specs.Requests.{added_of, side_files, side_root}
 use Rattle.file_catalogue.specs.Ignored.{cut_at_commas}

@@ -3,8 +3,8 @@ use Rattle.std.specs.Prelude.{◌≡◌, ◌⊎◌, ◌++◌, ⊤, List, [], Opt
 use Rattle.clap.specs.Words.{IsAmong, Kinds, Row, Text}
 use Rattle.clap.specs.declared.error.kind.ErrorKind.{ErrorKind}
 use Rattle.clap.specs.declared.error.kind.ErrorKind.TheVariants as kind
-use Rattle.engine_ends.specs.declared.line.LineFault.{LineFault}
-use Rattle.engine_ends.specs.declared.line.LineFault.TheVariants.{Help, Usage, Memory}
+use Rattle.engine_sessions.specs.declared.line.LineFault.{LineFault}
+use Rattle.engine_sessions.specs.declared.line.LineFault.TheVariants.{Help, Usage, Memory}
 use Rattle.file_catalogue.specs.Catalogue.{known_codes}
 use Rattle.file_catalogue.specs.Sections.{explanation}
 use Rattle.devdry_words.specs.declared.subcommands.Subcommand.TheVariants.{Explain}

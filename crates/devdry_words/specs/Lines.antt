@@ -4,14 +4,14 @@ use Rattle.std.specs.Prelude.{map, not, unwrap_or, codes}
 use Rattle.std.specs.Option.{option_map, option_map_or}
 use Rattle.std.specs.Str.{bytes_eq}
 use Rattle.clap.specs.Words.{Row, Text, first_of}
-use Rattle.engine_ends.specs.declared.line.AccountFile.{AccountFile}
-use Rattle.engine_ends.specs.declared.line.Color.{Color}
-use Rattle.engine_ends.specs.declared.line.Color.TheVariants.{Auto, Always, Never}
-use Rattle.engine_ends.specs.declared.line.Format.{Format}
-use Rattle.engine_ends.specs.declared.line.Format.TheVariants.{Plain, Gcc, Github, Gitlab, Json, Sarif, Human, HumanInColor}
-use Rattle.engine_ends.specs.declared.line.Line.{Line}
-use Rattle.engine_ends.specs.declared.line.Verb.{Verb}
-use Rattle.engine_ends.specs.declared.line.Verb.TheVariants.{Update, Query, Verify, Events, Mend}
+use Rattle.engine_sessions.specs.declared.line.AccountFile.{AccountFile}
+use Rattle.engine_sessions.specs.declared.line.Color.{Color}
+use Rattle.engine_sessions.specs.declared.line.Color.TheVariants.{Auto, Always, Never}
+use Rattle.engine_sessions.specs.declared.line.Format.{Format}
+use Rattle.engine_sessions.specs.declared.line.Format.TheVariants.{Plain, Gcc, Github, Gitlab, Json, Sarif, Human, HumanInColor}
+use Rattle.engine_sessions.specs.declared.line.Line.{Line}
+use Rattle.engine_sessions.specs.declared.line.Verb.{Verb}
+use Rattle.engine_sessions.specs.declared.line.Verb.TheVariants.{Update, Query, Verify, Events, Mend}
 use Rattle.file_catalogue.specs.Ignored.{ignored_codes}
 use Rattle.text_bytes.specs.declared.profile.Profile.{Profile}
 use Rattle.text_bytes.specs.declared.profile.Profile.TheVariants.{Manual, Udev}

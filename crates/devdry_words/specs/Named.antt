@@ -2,8 +2,8 @@
 use Rattle.std.specs.Prelude.{◌≡◌, ⊤, List, Option, IsSomeAnd, MatchOption, codes, string_bytes}
 use Rattle.clap.specs.Words.{Row, Text}
 use Rattle.clap.specs.declared.error.kind.ErrorKind.{ErrorKind}
-use Rattle.engine_ends.specs.declared.line.LineFault.{LineFault}
-use Rattle.engine_ends.specs.declared.line.LineFault.TheVariants.{Help, Usage, Memory}
+use Rattle.engine_sessions.specs.declared.line.LineFault.{LineFault}
+use Rattle.engine_sessions.specs.declared.line.LineFault.TheVariants.{Help, Usage, Memory}
 use Rattle.file_catalogue.specs.Sections.{explanation}
 use Rattle.devdry_words.specs.Answers.{AsksForHelp, no_such_code}
 use Rattle.devdry_words.specs.Refusals.{invalid_value, refusal_of, said_of}

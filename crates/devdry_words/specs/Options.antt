@@ -4,8 +4,8 @@ use Rattle.std.specs.List.{list_any}
 use Rattle.std.specs.Option.{option_map_or}
 use Rattle.clap.specs.Words.{Row, Text, fault_of, first_of, subcommand_of}
 use Rattle.text_bytes.specs.Texts.{is_empty}
-use Rattle.devdry_options.specs.Names.{flag_names, valued_names}
-use Rattle.devdry_options.specs.Words.{has_value_of, is_flag}
+use Rattle.engine_sessions.specs.Names.{flag_names, valued_names}
+use Rattle.engine_sessions.specs.Words.{has_value_of, is_flag}
 use Rattle.devdry_words.specs.Commands.{devdry}
 use Rattle.devdry_words.specs.Values.{is_set}
 

@@ -1,9 +1,9 @@
 -- What a user's words ask for.
 use Rattle.std.specs.Prelude.{◌≡◌, if◌then◌else◌, List, [], ◌∷◌, Option, None, IsSomeAnd, codes}
 use Rattle.clap.specs.Words.{Row, Text}
-use Rattle.engine_ends.specs.declared.line.Request.{Request}
-use Rattle.engine_ends.specs.declared.line.Request.TheVariants as request
-use Rattle.engine_ends.specs.declared.line.Verb.TheVariants.{Events}
+use Rattle.engine_sessions.specs.declared.line.Request.{Request}
+use Rattle.engine_sessions.specs.declared.line.Request.TheVariants as request
+use Rattle.engine_sessions.specs.declared.line.Verb.TheVariants.{Events}
 use Rattle.devdry_words.specs.declared.subcommands.Subcommand.{Subcommand}
 use Rattle.devdry_words.specs.declared.subcommands.Subcommand.TheVariants.{Run, Files, Compare, Explain}
 use Rattle.devdry_words.specs.Lines.{Reads, files_of, name_of}

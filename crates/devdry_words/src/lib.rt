@@ -1,7 +1,7 @@
 //! Parses the command line of `devdry`, with `clap`.
 //!
 //! This is a crate of its own because everything that depends on `clap` is slow to check: the types that the arguments
-//! become are in `engine_ends`, and only the program needs this crate.
+//! become are in `engine_sessions`, and only the program needs this crate.
 #![tactic(auto)]
 
 mod added;

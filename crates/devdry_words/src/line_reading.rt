@@ -8,7 +8,7 @@ use crate::ignored::ignored_codes;
 use crate::piped::input_name_of;
 use crate::values::{is_given, text, texts, value};
 use clap::ArgMatches;
-use engine_ends::{AccountFile, Color, Format, Line, Verb};
+use engine_sessions::{AccountFile, Color, Format, Line, Verb};
 use std::alloc::{AllocError, Global};
 use text_bytes::{Bytes, Profile};
 

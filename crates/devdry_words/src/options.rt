@@ -9,7 +9,7 @@ use crate::commands::devdry_command;
 use crate::values::{is_given, value};
 use clap::ArgMatches;
 use clap::error::ErrorKind;
-use devdry_options::{flag_names, has_value_of, is_flag, valued_names};
+use engine_sessions::{flag_names, has_value_of, is_flag, valued_names};
 use std::alloc::{AllocError, Global};
 
 /// The file of options that matches name.

@@ -17,7 +17,7 @@ use crate::subcommands::{Subcommand, compare_request, files_request, run_request
 use crate::values::text;
 use clap::error::ErrorKind;
 use clap::{ArgMatches, Error};
-use engine_ends::{LineFault, Request};
+use engine_sessions::{LineFault, Request};
 use std::alloc::{AllocError, Global};
 
 /// Whether help or the version was asked for.

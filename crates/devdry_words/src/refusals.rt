@@ -17,7 +17,7 @@ use crate::piped::{lacks_input, reads_twice};
 use crate::reporting::{usage, usage_on_code, usage_on_value};
 use crate::values::{has_value, is_empty, is_given, text, value};
 use clap::ArgMatches;
-use engine_ends::{Format, LineFault};
+use engine_sessions::{Format, LineFault};
 use std::alloc::Global;
 
 const TWO_DATABASES: &str = "error: the argument '--index <FILE>' cannot be used with '[FILE]...'

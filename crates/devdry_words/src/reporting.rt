@@ -4,7 +4,7 @@ ghost use Rattle.devdry_words.specs.Named.{Explains, IsHelpWith, IsUsageOf};
 ghost use Rattle.devdry_words.specs.Refusals.{invalid_value};
 ghost use Rattle.file_catalogue.specs.Catalogue.{known_codes};
 
-use engine_ends::LineFault;
+use engine_sessions::LineFault;
 use file_catalogue::{explanation, known_codes};
 use std::alloc::{AllocError, Global};
 

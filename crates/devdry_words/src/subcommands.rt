@@ -9,7 +9,7 @@ use crate::line_reading::line_with;
 use crate::piped::files_of;
 use crate::values::{is_given, text, texts};
 use clap::ArgMatches;
-use engine_ends::{Request, Verb};
+use engine_sessions::{Request, Verb};
 use std::alloc::{AllocError, Global};
 
 /// A subcommand.

@@ -1,3 +1,5 @@
+pub mod Noting
+pub mod Lacking
 pub mod Commanded
 pub mod Law
 pub mod Excess

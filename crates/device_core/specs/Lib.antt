@@ -1,3 +1,6 @@
+pub mod Tried
+pub mod Notes
+pub mod Laws
 pub mod Runs
 pub mod RunBlocks
 pub mod Filling

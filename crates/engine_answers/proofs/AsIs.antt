@@ -5,7 +5,7 @@ use Rattle.std.proofs.lemmas.List.Sums.{sum_by-append, sum_by-cons}
 use Rattle.text_bytes.specs.Escapes.{is_escaped}
 use Rattle.text_bytes.specs.Names.{newline}
 use Rattle.text_tables.specs.Pairs.{Pair}
-use Rattle.engine_ends.proofs.Plain.{are_plain}
+use Rattle.engine_sessions.proofs.Plain.{are_plain}
 use Rattle.engine_answers.specs.Inner.{env_as_is, lines_as_is, pair_words, shown_as_is, shown_count, shown_line}
 use Rattle.engine_answers.specs.Lines.{is_hidden, pair_line}
 use Rattle.engine_answers.proofs.Plain.{plain_pair}

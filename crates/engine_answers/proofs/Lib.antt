@@ -1,3 +1,7 @@
+pub mod Reporting
+pub mod EnvMembers
+mod JsonSourced
+mod ReadBack
 mod Plain
 pub mod Listed
 pub mod InFront

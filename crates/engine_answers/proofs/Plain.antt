@@ -5,7 +5,7 @@ use Rattle.std.proofs.Math.Seq.{drop-append_seam}
 use Rattle.std.proofs.lemmas.List.Folds.{list_all-append}
 use Rattle.text_bytes.specs.Escapes.{escape_text, is_escaped}
 use Rattle.text_bytes.specs.Names.{space, equals, newline}
-use Rattle.engine_ends.proofs.Plain.{are_plain, plain_is_same}
+use Rattle.engine_sessions.proofs.Plain.{are_plain, plain_is_same}
 use Rattle.engine_answers.specs.Inner.{pair_words}
 use Rattle.engine_answers.specs.Lines.{pair_line}
 

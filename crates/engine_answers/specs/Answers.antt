@@ -3,18 +3,18 @@ use Rattle.std.specs.Prelude.{List, [], ◌∷◌, ◌++◌, Some, None, codes, 
 use Rattle.text_bytes.specs.Names.{newline}
 use Rattle.text_bytes.specs.Text.{Text}
 use Rattle.text_tables.specs.Pairs.{Pair}
-use Rattle.builtin_knowledge.specs.Knowledge.{Known}
+use Rattle.builtin_devices.specs.Knowledge.{Known}
 use Rattle.rule_types.specs.Rules.{Rule}
 use Rattle.device_core.specs.Values.{EventValue}
-use Rattle.device_notes.specs.Tried.{tried}
+use Rattle.device_core.specs.Tried.{tried}
 use Rattle.eval_rules.specs.declared.outcome.Command.{Command}
 use Rattle.eval_rules.specs.declared.outcome.Outcome.{Outcome}
 use Rattle.eval_sources.specs.Sources.{Source, source_of}
 use Rattle.eval_sources.specs.Reported.{event_commands, stages}
 use Rattle.eval_unread.specs.Unread.{whole_outcome}
-use Rattle.engine_ends.specs.Places.{place_of}
+use Rattle.engine_sessions.specs.Places.{place_of}
 use Rattle.engine_answers.specs.Lines.{block_note_lines, note_lines, run_line}
-use Rattle.engine_ends.specs.EventLine.{event_line}
+use Rattle.engine_sessions.specs.EventLine.{event_line}
 use Rattle.engine_answers.specs.Items.{item_lines}
 
 -- lines, each after what is in front of it, by what it is about

@@ -1,3 +1,8 @@
+pub mod Differences
+pub mod Objects
+pub mod Members
+pub mod JsonAnswers
+pub mod JsonInner
 pub mod Lines
 pub mod Items
 pub mod Answers

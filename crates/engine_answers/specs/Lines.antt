@@ -6,12 +6,12 @@ use Rattle.text_bytes.specs.Text.{Text}
 use Rattle.text_tables.specs.Pairs.{Pair}
 use Rattle.rule_types.specs.Names.{run_name}
 use Rattle.device_core.specs.Values.{EventValue}
-use Rattle.device_notes.specs.Notes.{block_notes, text_of as text_about_block}
-use Rattle.device_notes.specs.declared.notes.BlockNote.{BlockNote}
+use Rattle.device_core.specs.Notes.{block_notes, text_of as text_about_block}
+use Rattle.device_core.specs.declared.notes.BlockNote.{BlockNote}
 use Rattle.eval_rules.specs.declared.outcome.Command.{Command}
 use Rattle.eval_state.specs.Notes.{text_of}
 use Rattle.eval_state.specs.declared.notes.Note.{Note}
-use Rattle.engine_ends.specs.Places.{place_of, word_part}
+use Rattle.engine_sessions.specs.Places.{place_of, word_part}
 
 -- a line: its word, a space, and what it says
 abbrev pub line : Text → Text → Text

@@ -4,7 +4,7 @@ ghost use Rattle.eval_effects.specs.Items.{item_name, label_item};
 ghost use Rattle.engine_answers.specs.Answers.{source_part};
 ghost use Rattle.engine_answers.specs.Inner.{front_of};
 
-use engine_ends::push_place;
+use engine_sessions::push_place;
 use eval_effects::{item_name, label_item};
 use eval_sources::Sources;
 use eval_state::Label;

@@ -7,7 +7,7 @@ ghost use Rattle.engine_answers.specs.Items.{persist_lines, priority_lines, valu
 
 use crate::front::{push_label_origin, push_member_origin, push_origin};
 use crate::lines::{is_hidden, push_as_is, push_bare, push_line, push_pair, push_text};
-use engine_ends::escaped_count;
+use engine_sessions::escaped_count;
 use eval_effects::watch_word;
 use eval_rules::Outcome;
 use eval_sources::Sources;

@@ -3,8 +3,8 @@ ghost use Rattle.std.specs.Prelude.{◌≡◌, ◌++◌, codes, not, IfOk, OnOk}
 ghost use Rattle.engine_answers.specs.Inner.{pair_words, shown_as_is};
 ghost use Rattle.engine_answers.specs.Lines.{bare_line, block_note_line, is_hidden, line, note_line, pair_line, run_line, text_line};
 
-use device_notes::BlockNote;
-use engine_ends::{is_plain, push_escaped, push_place, push_word};
+use device_core::BlockNote;
+use engine_sessions::{is_plain, push_escaped, push_place, push_word};
 use eval_rules::Command;
 use eval_state::Note;
 use std::alloc::{AllocError, Global};

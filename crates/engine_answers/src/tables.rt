@@ -5,9 +5,8 @@ ghost use Rattle.eval_unread.specs.Unread.{whole_outcome};
 ghost use Rattle.eval_unread.specs.Others.{ask_others};
 
 use crate::answers::{answer, sourced_lines};
-use builtin_knowledge::Knowledge;
-use device_core::Event;
-use device_notes::lacks_event;
+use builtin_devices::Knowledge;
+use device_core::{Event, lacks_event};
 use engine_sessions::Answering;
 use eval_core::{Program, compile};
 use eval_unread::{ask_others, completed, evaluate_whole};

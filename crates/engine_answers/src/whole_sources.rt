@@ -5,7 +5,7 @@ ghost use Rattle.eval_sources.specs.Sources.{Reports};
 ghost use Rattle.eval_unread.specs.Others.{ask_others};
 ghost use Rattle.eval_unread.specs.Unread.{whole_outcome};
 
-use builtin_knowledge::Knowledge;
+use builtin_devices::Knowledge;
 use device_core::Event;
 use eval_sources::{Sourced, evaluate_sources};
 use eval_unread::completed;

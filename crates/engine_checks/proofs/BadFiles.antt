@@ -15,11 +15,11 @@ use Rattle.rule_types.specs.Rules.{tokens_in}
 use Rattle.rule_core.specs.Rules.{file_rules, set_of_as}
 use Rattle.rule_core.proofs.TokensCounted.{all_tokens}
 use Rattle.rule_remarks.specs.Findings.{findings_as}
-use Rattle.engine_ends.specs.Places.{place_of, word_part}
-use Rattle.engine_ends.specs.declared.line.Format.{Format}
-use Rattle.engine_ends.specs.declared.line.Format.TheVariants.{Plain}
-use Rattle.engine_ends.specs.declared.line.Line.{Line}
-use Rattle.engine_ends.specs.Delivery.{RunOutcome}
+use Rattle.engine_sessions.specs.Places.{place_of, word_part}
+use Rattle.engine_sessions.specs.declared.line.Format.{Format}
+use Rattle.engine_sessions.specs.declared.line.Format.TheVariants.{Plain}
+use Rattle.engine_sessions.specs.declared.line.Line.{Line}
+use Rattle.engine_sessions.specs.Delivery.{RunOutcome}
 use Rattle.engine_reports.specs.Checks.{bad_count, files_said, summary_line, verify_status}
 use Rattle.engine_formats.specs.Diagnostics.{DiagnosticValue}
 use Rattle.engine_formats.specs.Formats.{formatted}

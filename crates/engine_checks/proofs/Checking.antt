@@ -8,12 +8,12 @@ use Rattle.text_tables.specs.Texts.{is_among}
 use Rattle.hwdb_core.specs.Sources.{WithinBounds, entries_of, messages_of}
 use Rattle.hwdb_core.specs.declared.fault.HwdbFault.{HwdbFault}
 use Rattle.hwdb_core.specs.declared.fault.HwdbFault.TheVariants as hwdb
-use Rattle.hwdb_lints.specs.Lints.{database_lints}
+use Rattle.hwdb_core.specs.Lints.{database_lints}
 use Rattle.rule_types.specs.Rules.{tokens_in}
 use Rattle.rule_core.specs.Rules.{set_of_as}
 use Rattle.rule_file_lints.specs.FileLints.{placed_lints}
 use Rattle.rule_remarks.specs.Findings.{findings_as}
-use Rattle.engine_ends.specs.declared.line.Line.{Line}
+use Rattle.engine_sessions.specs.declared.line.Line.{Line}
 use Rattle.engine_reports.specs.Outcomes.{too_many_rules}
 use Rattle.engine_reports.proofs.Bounds.{entries_refused, outcome_few}
 use Rattle.engine_reports.specs.Reports.{IsSaid, refused_entries}

@@ -4,9 +4,9 @@ use Rattle.std.proofs.lemmas.List.Elements.{All-map}
 use Rattle.text_bytes.specs.declared.source_file.SourceFile.{SourceFile}
 use Rattle.text_tables.specs.Texts.{is_among}
 use Rattle.hwdb_core.specs.Sources.{messages_of}
-use Rattle.hwdb_lints.specs.Lints.{database_lints}
+use Rattle.hwdb_core.specs.Lints.{database_lints}
 use Rattle.rule_file_lints.specs.FileLints.{placed_lints}
-use Rattle.engine_ends.specs.declared.line.Line.{Line}
+use Rattle.engine_sessions.specs.declared.line.Line.{Line}
 use Rattle.engine_formats.specs.Diagnostics.{DiagnosticValue}
 use Rattle.file_catalogue.specs.Catalogue.{code_of}
 use Rattle.file_catalogue.specs.declared.remark.Remark.{Remark}

@@ -12,7 +12,7 @@ use Rattle.rule_core.specs.Ends.{abandoned}
 use Rattle.rule_core.specs.Lines.{Joined, joined_lines}
 use Rattle.rule_core.specs.Rules.{file_rules, landed, reading_of, rules_unless}
 use Rattle.rule_core.proofs.TokensCounted.{tokens_counted}
-use Rattle.rule_pairs.specs.Accounts.{Accounts}
+use Rattle.rule_remarks.specs.Accounts.{Accounts}
 use Rattle.rule_places.specs.Abandoned.{abandoned_findings}
 use Rattle.rule_places.specs.Files.{findings_unless, placed_findings, placed_lines}
 use Rattle.rule_places.specs.Kept.{kept_lines}

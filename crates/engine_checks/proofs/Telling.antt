@@ -11,8 +11,8 @@ use Rattle.text_bytes.specs.declared.profile.Profile.{Profile}
 use Rattle.text_bytes.specs.declared.profile.Profile.TheVariants.{Manual, Udev}
 use Rattle.text_bytes.specs.declared.source_file.SourceFile.{SourceFile}
 use Rattle.file_messages.specs.declared.message.MessageKind.{MessageKind}
-use Rattle.rule_jumps.specs.Jumps.{landings}
-use Rattle.rule_jumps.specs.declared.jumps.Landing.{Landing}
+use Rattle.rule_types.specs.Jumps.{landings}
+use Rattle.rule_types.specs.declared.jumps.Landing.{Landing}
 use Rattle.rule_types.specs.declared.spot.Spot.{Spot}
 use Rattle.rule_core.specs.Counts.{token_count}
 use Rattle.rule_core.specs.Ends.{abandoned}
@@ -22,7 +22,7 @@ use Rattle.rule_core.specs.Notes.{AreSilent}
 use Rattle.rule_core.specs.Rules.{Reading, file_rules, landed, line_findings, names_of, reading_of}
 use Rattle.rule_lints.specs.declared.lint.Lint.{Lint}
 use Rattle.rule_types.specs.Rules.{tokens_in}
-use Rattle.rule_pairs.specs.Accounts.{Accounts}
+use Rattle.rule_remarks.specs.Accounts.{Accounts}
 use Rattle.rule_places.specs.Files.{open_findings, placed_from, placed_lines}
 use Rattle.rule_places.specs.Kept.{kept_lines}
 use Rattle.rule_places.specs.Placed.{placed}
@@ -34,7 +34,7 @@ use Rattle.rule_file_lints.proofs.Passing.{all_known}
 use Rattle.rule_remarks.specs.ByLine.{by_line}
 use Rattle.rule_remarks.specs.Rules.{line_remarks, remarks_from}
 use Rattle.rule_remarks.proofs.ByLines.{both_rise}
-use Rattle.engine_ends.specs.declared.line.Line.{Line}
+use Rattle.engine_sessions.specs.declared.line.Line.{Line}
 use Rattle.engine_formats.specs.Diagnostics.{DiagnosticValue}
 use Rattle.engine_formats.specs.Lines.{plain_line}
 use Rattle.file_catalogue.specs.declared.remark.Remark.TheVariants as about

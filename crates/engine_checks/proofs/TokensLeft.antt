@@ -6,7 +6,7 @@ use Rattle.text_bytes.specs.declared.source_file.SourceFile.{SourceFile}
 use Rattle.rule_types.specs.Rules.{tokens_in}
 use Rattle.rule_core.specs.Rules.{file_rules, set_of_as}
 use Rattle.rule_core.proofs.TokensCounted.{all_tokens}
-use Rattle.engine_ends.specs.declared.line.Line.{Line}
+use Rattle.engine_sessions.specs.declared.line.Line.{Line}
 use Rattle.engine_checks.specs.Tables.{FileRead, read_by}
 
 -- the tokens left in the rules of files

@@ -23,11 +23,11 @@ use Rattle.hwdb_core.specs.Messages.{about_bare, about_early, about_match, about
 use Rattle.hwdb_core.specs.Paragraphs.{Cut}
 use Rattle.hwdb_core.specs.Properties.{pair_at, property_text}
 use Rattle.hwdb_core.specs.Sources.{cuts_of, messages_of}
-use Rattle.hwdb_lints.specs.Lints.{database_lints}
-use Rattle.engine_ends.specs.Places.{place_of, word_part}
-use Rattle.engine_ends.specs.declared.line.Format.{Format}
-use Rattle.engine_ends.specs.declared.line.Format.TheVariants as formats
-use Rattle.engine_ends.specs.declared.line.Line.{Line}
+use Rattle.hwdb_core.specs.Lints.{database_lints}
+use Rattle.engine_sessions.specs.Places.{place_of, word_part}
+use Rattle.engine_sessions.specs.declared.line.Format.{Format}
+use Rattle.engine_sessions.specs.declared.line.Format.TheVariants as formats
+use Rattle.engine_sessions.specs.declared.line.Line.{Line}
 use Rattle.engine_formats.specs.Diagnostics.{DiagnosticValue}
 use Rattle.engine_formats.specs.Formats.{formatted}
 use Rattle.engine_formats.specs.Lines.{plain_line}

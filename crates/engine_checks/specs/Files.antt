@@ -5,17 +5,17 @@ use Rattle.file_messages.specs.declared.message.Message.{Message}
 use Rattle.text_bytes.specs.declared.source_file.SourceFile.{SourceFile}
 use Rattle.text_bytes.specs.Text.{Text}
 use Rattle.hwdb_core.specs.Sources.{messages_of}
-use Rattle.hwdb_lints.specs.Lints.{database_lints}
-use Rattle.hwdb_lints.specs.declared.placed_lint.PlacedLint.{PlacedLint}
+use Rattle.hwdb_core.specs.Lints.{database_lints}
+use Rattle.hwdb_core.specs.declared.placed_lint.PlacedLint.{PlacedLint}
 use Rattle.file_messages.specs.declared.message.MessageKind.{MessageKind}
 use Rattle.rule_lints.specs.declared.lint.Lint.{Lint}
-use Rattle.rule_pairs.specs.Accounts.{Accounts}
-use Rattle.rule_pairs.specs.declared.accounts.AccountKind.TheVariants.{User, Group}
+use Rattle.rule_remarks.specs.Accounts.{Accounts}
+use Rattle.rule_remarks.specs.declared.accounts.AccountKind.TheVariants.{User, Group}
 use Rattle.rule_remarks.specs.AccountLines.{accounts_of}
 use Rattle.rule_remarks.specs.Findings.{findings_as}
 use Rattle.rule_places.specs.declared.placed_finding.PlacedFinding.{PlacedFinding}
 use Rattle.rule_file_lints.specs.FileLints.{placed_lints}
-use Rattle.engine_ends.specs.declared.line.Line.{Line}
+use Rattle.engine_sessions.specs.declared.line.Line.{Line}
 use Rattle.engine_formats.specs.Diagnostics.{DiagnosticValue}
 use Rattle.engine_formats.specs.Paths.{path_of}
 use Rattle.engine_formats.specs.Placing.{placed}

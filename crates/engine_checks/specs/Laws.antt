@@ -4,9 +4,9 @@ use Rattle.text_bytes.specs.Text.{Text}
 use Rattle.text_bytes.specs.Lines.{numbered_lines}
 use Rattle.text_bytes.specs.Texts.{trimmed, unindented}
 use Rattle.text_bytes.specs.declared.source_file.SourceFile.{SourceFile}
-use Rattle.hwdb_lints.specs.Lints.{database_lints}
+use Rattle.hwdb_core.specs.Lints.{database_lints}
 use Rattle.rule_file_lints.specs.FileLints.{placed_lints}
-use Rattle.engine_ends.specs.declared.line.Line.{Line}
+use Rattle.engine_sessions.specs.declared.line.Line.{Line}
 use Rattle.engine_formats.specs.Diagnostics.{DiagnosticValue}
 use Rattle.engine_formats.specs.Placing.{line_numbered}
 use Rattle.file_catalogue.specs.Catalogue.{code_of}

@@ -5,9 +5,9 @@ use Rattle.text_bytes.specs.declared.profile.Profile.TheVariants.{Manual, Udev}
 use Rattle.text_bytes.specs.Text.{Text}
 use Rattle.file_messages.specs.declared.message.MessageKind.{MessageKind}
 use Rattle.rule_lints.specs.declared.lint.Lint.{Lint}
-use Rattle.rule_jumps.specs.declared.jumps.Landing.{Landing}
+use Rattle.rule_types.specs.declared.jumps.Landing.{Landing}
 use Rattle.rule_core.specs.Rules.{Reading}
-use Rattle.rule_pairs.specs.Accounts.{Accounts}
+use Rattle.rule_remarks.specs.Accounts.{Accounts}
 use Rattle.rule_places.specs.Files.{placed_lines}
 use Rattle.rule_places.specs.declared.kept.KeptLine.{KeptLine}
 use Rattle.rule_places.specs.declared.placed_finding.PlacedFinding.{PlacedFinding}

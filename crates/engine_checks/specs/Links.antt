@@ -5,11 +5,11 @@ use Rattle.text_bytes.specs.declared.source_file.FileKind.TheVariants.{Rules}
 use Rattle.text_bytes.specs.declared.source_file.SourceFile.{SourceFile}
 use Rattle.text_bytes.specs.Text.{Text}
 use Rattle.link_files.specs.Files as links
-use Rattle.link_lints.specs.Matching.{link_faults}
-use Rattle.link_lints.specs.declared.placed_fault.PlacedFault.{PlacedFault}
-use Rattle.engine_ends.specs.Delivery.{RunOutcome}
-use Rattle.engine_ends.specs.Kinds.{names_files_of}
-use Rattle.engine_ends.specs.declared.line.Line.{Line}
+use Rattle.link_files.specs.Matching.{link_faults}
+use Rattle.link_files.specs.declared.placed_fault.PlacedFault.{PlacedFault}
+use Rattle.engine_sessions.specs.Delivery.{RunOutcome}
+use Rattle.engine_sessions.specs.Kinds.{names_files_of}
+use Rattle.engine_sessions.specs.declared.line.Line.{Line}
 use Rattle.engine_formats.specs.Diagnostics.{DiagnosticValue}
 use Rattle.file_catalogue.specs.declared.remark.Remark.TheVariants as about
 use Rattle.engine_checks.specs.Files.{asked_by, ignores_counted}

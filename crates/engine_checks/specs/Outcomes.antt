@@ -4,13 +4,13 @@ use Rattle.text_bytes.specs.declared.source_file.SourceFile.{SourceFile}
 use Rattle.text_bytes.specs.declared.source_file.FileKind.TheVariants.{Hwdb, Rules}
 use Rattle.file_messages.specs.declared.message.Message.{Message}
 use Rattle.text_bytes.specs.Text.{Text}
-use Rattle.hwdb_lookup.specs.declared.entry.Entry.{Entry}
+use Rattle.trie_nodes.specs.declared.entry.Entry.{Entry}
 use Rattle.rule_core.specs.Ends.{file_as_read}
 use Rattle.rule_core.specs.Rules.{set_of_as}
-use Rattle.trie_core.specs.Image.{image}
-use Rattle.engine_ends.specs.Delivery.{RunOutcome}
-use Rattle.engine_ends.specs.declared.line.Format.{Format}
-use Rattle.engine_ends.specs.declared.line.Line.{Line}
+use Rattle.trie_build.specs.Image.{image}
+use Rattle.engine_sessions.specs.Delivery.{RunOutcome}
+use Rattle.engine_sessions.specs.declared.line.Format.{Format}
+use Rattle.engine_sessions.specs.declared.line.Line.{Line}
 use Rattle.engine_reports.specs.Checks.{files_said}
 use Rattle.engine_reports.specs.FilesRead.{files_read}
 use Rattle.engine_reports.specs.Outcomes.{database_outcome, hold_few_tokens, too_many_rules}

@@ -7,7 +7,7 @@ use Rattle.text_bytes.specs.declared.profile.Profile.{Profile}
 use Rattle.file_messages.specs.Messages.{is_style}
 use Rattle.text_bytes.specs.Text.{Text}
 use Rattle.text_tables.specs.Texts.{is_among, same_text}
-use Rattle.rule_pairs.specs.Accounts.{Accounts}
+use Rattle.rule_remarks.specs.Accounts.{Accounts}
 use Rattle.rule_remarks.specs.ByLine.{by_line}
 use Rattle.engine_formats.specs.Diagnostics.{DiagnosticValue}
 use Rattle.engine_formats.specs.Placing.{line_numbered}

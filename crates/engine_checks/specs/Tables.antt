@@ -12,7 +12,7 @@ use Rattle.file_catalogue.specs.declared.remark.Remark.TheVariants.{IdleIgnore, 
 use Rattle.text_bytes.specs.declared.source_file.SourceFile.{SourceFile}
 use Rattle.hwdb_core.specs.Sources.{messages_of}
 use Rattle.rule_remarks.specs.Findings.{findings_as}
-use Rattle.engine_ends.specs.declared.line.Line.{Line}
+use Rattle.engine_sessions.specs.declared.line.Line.{Line}
 use Rattle.engine_checks.specs.Ignores.{Ignore}
 use Rattle.engine_checks.specs.Files.{accounts_by, database_found_with, database_lints_counted, file_text, found_with, ignored_by, ignores_counted}
 use Rattle.engine_checks.specs.Files.{lints_counted}

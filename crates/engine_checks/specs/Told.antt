@@ -8,7 +8,7 @@ use Rattle.text_bytes.specs.declared.source_file.SourceFile.{SourceFile}
 use Rattle.file_messages.specs.declared.message.Message.{Message}
 use Rattle.file_messages.specs.declared.message.MessageKind.{MessageKind}
 use Rattle.file_messages.specs.declared.message.MessageKind.TheVariants.{OpenAtEnd}
-use Rattle.rule_jumps.specs.declared.jumps.Landing.{Landing}
+use Rattle.rule_types.specs.declared.jumps.Landing.{Landing}
 use Rattle.rule_types.specs.declared.spot.Spot.{Spot}
 use Rattle.rule_lints.specs.declared.lint.Lint.{Lint}
 use Rattle.rule_core.specs.Drafts.{Draft}
@@ -16,11 +16,11 @@ use Rattle.rule_core.specs.Lines.{Joined, NumberedLine}
 use Rattle.rule_core.specs.Rules.{Reading, landed, line_findings, reading_of}
 use Rattle.rule_file_lints.specs.FileLints.{FileNames, RulesAbove}
 use Rattle.rule_file_lints.specs.Steps.{above_after, names_in, nothing_above, spots_at}
-use Rattle.rule_pairs.specs.Accounts.{Accounts}
+use Rattle.rule_remarks.specs.Accounts.{Accounts}
 use Rattle.rule_remarks.specs.Rules.{line_remarks}
-use Rattle.engine_ends.specs.declared.line.Format.{Format}
-use Rattle.engine_ends.specs.declared.line.Format.TheVariants.{Plain}
-use Rattle.engine_ends.specs.declared.line.Line.{Line}
+use Rattle.engine_sessions.specs.declared.line.Format.{Format}
+use Rattle.engine_sessions.specs.declared.line.Format.TheVariants.{Plain}
+use Rattle.engine_sessions.specs.declared.line.Line.{Line}
 use Rattle.engine_formats.specs.Diagnostics.{DiagnosticValue}
 use Rattle.engine_formats.specs.Lines.{plain_line}
 use Rattle.file_catalogue.specs.declared.remark.Remark.{Remark}

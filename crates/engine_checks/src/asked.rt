@@ -7,9 +7,8 @@ ghost use Rattle.engine_checks.specs.Files.{accounts_by, ignored_by};
 ghost use Rattle.rule_remarks.specs.AccountLines.{accounts_of};
 
 use crate::reported::Asked;
-use engine_ends::{AccountFile, Line};
-use rule_pairs::{AccountKind, AccountList, Accounts};
-use rule_remarks::read_accounts;
+use engine_sessions::{AccountFile, Line};
+use rule_remarks::{AccountKind, AccountList, Accounts, read_accounts};
 use std::alloc::{AllocError, Global};
 use text_tables::Texts;
 

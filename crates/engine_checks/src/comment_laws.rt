@@ -6,7 +6,7 @@ ghost use Rattle.text_bytes.specs.Lines.{lines};
 ghost use Rattle.text_bytes.specs.declared.profile.Profile.{Profile};
 ghost use Rattle.text_bytes.specs.declared.source_file.SourceFile.{SourceFile};
 ghost use Rattle.text_tables.specs.Texts.{is_among};
-ghost use Rattle.engine_ends.specs.declared.line.Line.{Line};
+ghost use Rattle.engine_sessions.specs.declared.line.Line.{Line};
 ghost use Rattle.engine_formats.specs.Diagnostics.{DiagnosticValue};
 ghost use Rattle.file_catalogue.specs.Catalogue.{code_of};
 ghost use Rattle.engine_checks.specs.Codes.{has_comments};

@@ -8,7 +8,7 @@ use crate::file_text::FileText;
 use crate::reported::Asked;
 use engine_formats::Diagnostic;
 use file_catalogue::Remark;
-use hwdb_lints::{PlacedLint, database_lints};
+use hwdb_core::{PlacedLint, database_lints};
 use std::alloc::{AllocError, Global};
 use text_bytes::SourceFile;
 

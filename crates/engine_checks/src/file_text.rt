@@ -6,8 +6,8 @@ ghost use Rattle.engine_checks.specs.Files.{file_text};
 ghost use Rattle.engine_checks.specs.Links.{link_text};
 
 use crate::link_paths::link_path;
-use engine_ends::Line;
 use engine_formats::{file_lines, line_numbered, path_of};
+use engine_sessions::Line;
 use std::alloc::{AllocError, Global};
 use std::marker::Model;
 use text_bytes::{Bytes, Line as TextLine, SourceFile};

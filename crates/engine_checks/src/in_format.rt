@@ -3,9 +3,9 @@ ghost use Rattle.std.specs.Prelude.{◌≡◌};
 ghost use Rattle.engine_checks.specs.Outcomes.{in_format};
 ghost use Rattle.engine_reports.specs.Reports.{said};
 
-use engine_ends::Format;
 use engine_formats::is_report;
 use engine_reports::Report;
+use engine_sessions::Format;
 use std::alloc::Global;
 
 /// What is said in a format: a report for programs is all of the output, and there are no messages.

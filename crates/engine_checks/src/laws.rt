@@ -4,7 +4,7 @@
 ghost use Rattle.std.specs.Prelude.{◌≡◌, ◌&&◌, ◌||◌, not, false, filter};
 ghost use Rattle.text_bytes.specs.declared.source_file.SourceFile.{SourceFile};
 ghost use Rattle.text_tables.specs.Texts.{is_among};
-ghost use Rattle.engine_ends.specs.declared.line.Line.{Line};
+ghost use Rattle.engine_sessions.specs.declared.line.Line.{Line};
 ghost use Rattle.file_catalogue.specs.Catalogue.{code_of};
 ghost use Rattle.engine_checks.specs.Codes.{has_comments};
 ghost use Rattle.engine_checks.specs.Files.{database_found, database_reported, ignored_by, rules_found, rules_reported};

@@ -1,6 +1,6 @@
 //! What `verify --links` says.
 ghost use Rattle.std.specs.Prelude.{◌≡◌, ◌<◌, IfErr, IfOk};
-ghost use Rattle.engine_ends.specs.Delivery.{Delivers, ReportsFaults};
+ghost use Rattle.engine_sessions.specs.Delivery.{Delivers, ReportsFaults};
 ghost use Rattle.engine_reports.specs.Reports.{IsSaid, said};
 ghost use Rattle.engine_checks.specs.Links.{links_outcome};
 
@@ -8,8 +8,8 @@ use crate::asked::asked_by;
 use crate::checks::report_on_reported;
 use crate::link_faults::links_reported;
 use crate::reads::read_links;
-use engine_ends::{Line, Sink};
 use engine_reports::{Refusal, Report, deliver_report};
+use engine_sessions::{Line, Sink};
 use std::alloc::Global;
 use text_bytes::SourceFile;
 

@@ -10,8 +10,7 @@ use crate::reads::FileRead;
 use crate::reported::{Asked, file_reported};
 use engine_formats::Diagnostic;
 use file_catalogue::Remark;
-use link_files::DropIns;
-use link_lints::{PlacedFault, link_faults};
+use link_files::{DropIns, PlacedFault, link_faults};
 use std::alloc::{AllocError, Global};
 use text_bytes::SourceFile;
 

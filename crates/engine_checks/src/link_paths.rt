@@ -3,7 +3,7 @@ ghost use Rattle.std.specs.Prelude.{◌≡◌, ◌++◌, IfOk};
 ghost use Rattle.link_files.specs.Files as links;
 ghost use Rattle.engine_checks.specs.Links.{link_path};
 
-use engine_ends::Line;
+use engine_sessions::Line;
 use link_files::path_of;
 use std::alloc::{AllocError, Global};
 use text_bytes::{FileKind, SourceFile};

@@ -4,7 +4,7 @@
 ghost use Rattle.std.specs.Prelude.{◌≡◌, ◌&&◌, ◌||◌, not, true, false, [], filter};
 ghost use Rattle.text_bytes.specs.declared.source_file.SourceFile.{SourceFile};
 ghost use Rattle.text_tables.specs.Texts.{is_among};
-ghost use Rattle.engine_ends.specs.declared.line.Line.{Line};
+ghost use Rattle.engine_sessions.specs.declared.line.Line.{Line};
 ghost use Rattle.file_catalogue.specs.Catalogue.{code_of};
 ghost use Rattle.engine_checks.specs.Codes.{has_comments};
 ghost use Rattle.engine_checks.specs.Files.{asked_by, database_reported, ignored_by, ignores_counted, rules_found, rules_reported};

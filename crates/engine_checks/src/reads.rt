@@ -3,7 +3,7 @@ ghost use Rattle.std.specs.Prelude.{◌≡◌, map, IfOk};
 ghost use Rattle.engine_checks.specs.Tables.{link_read_by, read_at, read_by};
 
 use crate::file_text::FileText;
-use engine_ends::Line;
+use engine_sessions::Line;
 use std::alloc::{AllocError, Global};
 use std::marker::Model;
 use text_bytes::SourceFile;

@@ -12,7 +12,7 @@ use crate::met::Met;
 use crate::silenced::Silenced;
 use engine_formats::Diagnostic;
 use file_catalogue::Remark;
-use rule_pairs::Accounts;
+use rule_remarks::Accounts;
 use std::alloc::{AllocError, Global};
 use std::marker::Model;
 use text_bytes::Profile;

@@ -1,7 +1,7 @@
 //! What is reported for one file by itself, as an editor has it open.
 ghost use Rattle.std.specs.Prelude.{◌≡◌, map, IfOk};
 ghost use Rattle.text_bytes.specs.declared.source_file.SourceFile.{SourceFile};
-ghost use Rattle.engine_ends.specs.declared.line.Line.{Line};
+ghost use Rattle.engine_sessions.specs.declared.line.Line.{Line};
 ghost use Rattle.engine_formats.specs.Diagnostics.{shown};
 ghost use Rattle.engine_formats.specs.Paths.{path_of};
 ghost use Rattle.engine_checks.specs.Files.{database_reported, rules_reported};

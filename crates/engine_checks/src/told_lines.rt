@@ -9,7 +9,7 @@ ghost use Rattle.engine_checks.specs.Told.{above_told, bare, first_above, first_
 ghost use Rattle.engine_checks.specs.Told.{messages_said, names_told, next_above, next_told, open_said, reads_silent, remarks_at, told};
 
 use crate::reported::{Asked, is_asked};
-use engine_ends::{push_place, push_word};
+use engine_sessions::{push_place, push_word};
 use file_catalogue::Remark;
 use file_messages::MessageKind;
 use rule_core::{Draft, JoinedLines, LandedLines, LandedReading, Spot, line_findings, note_lines};

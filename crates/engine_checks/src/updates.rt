@@ -16,16 +16,15 @@ use crate::in_format::in_format;
 use crate::reads::read_files;
 use crate::reported::{Asked, is_asked};
 use crate::told_lines::tell;
-use engine_ends::{Format, Line};
 use engine_formats::{formatted, messages_are_at_their_words};
 use engine_reports::{Refusal, Report, files_read};
+use engine_sessions::{Format, Line};
 use file_catalogue::Remark;
 use file_messages::Message;
 use hwdb_core::read_sources;
 use std::alloc::{AllocError, Global};
 use text_bytes::{FileKind, SourceFile};
-use trie_build::{Trie, trie_of};
-use trie_core::write_index;
+use trie_build::{Trie, trie_of, write_index};
 
 /// Each line of a file of fewer bytes has its number.
 const MAX_BYTES: usize = 1 << 32;

@@ -1,9 +1,9 @@
 -- From the steps of a comparison to what it serves.
 use Rattle.std.proofs.Common.{◌≡◌, ℕ, Bool, List, inl, inr, refl, subst, Result, Ok, Err}
 use Rattle.text_bytes.specs.Text.{Text}
-use Rattle.engine_ends.specs.Streams.{Streams, outputs}
-use Rattle.engine_ends.specs.declared.line.Line.{Line}
-use Rattle.engine_ends.specs.Delivery.{RunOutcome, Delivers, ReportsFailure, ReportsFaults, out_of_memory}
+use Rattle.engine_sessions.specs.Streams.{Streams, outputs}
+use Rattle.engine_sessions.specs.declared.line.Line.{Line}
+use Rattle.engine_sessions.specs.Delivery.{RunOutcome, Delivers, ReportsFailure, ReportsFaults, out_of_memory}
 use Rattle.engine_formats.specs.Masked.{shown_in}
 use Rattle.engine_reports.specs.Openings.{OpeningValue}
 use Rattle.engine_reports.specs.Indexes.{refused_index}
@@ -14,14 +14,14 @@ use Rattle.engine_reports.specs.declared.refusal.Refusal.TheVariants.{TooManyEnt
 use Rattle.rule_types.specs.Rules.{Rule}
 use Rattle.device_core.specs.Values.{EventValue}
 use Rattle.builtin_core.specs.Builtins.{Held, known_by}
-use Rattle.builtin_knowledge.specs.Knowledge.{FilesFound}
+use Rattle.builtin_devices.specs.Knowledge.{FilesFound}
 use Rattle.engine_sessions.specs.Findings.{FindsAll}
 use Rattle.engine_sessions.specs.Serves.{Serves}
 use Rattle.engine_sessions.specs.declared.following.Telling.{Telling}
 use Rattle.engine_sessions.specs.Sessions.{answers_as}
 use Rattle.engine_sessions.proofs.Serving.{reports_serve}
 use Rattle.engine_sessions.proofs.FindServing.{finds_serve}
-use Rattle.engine_compare.specs.Objects.{compared}
+use Rattle.engine_answers.specs.Objects.{compared}
 use Rattle.engine_core.specs.Comparing.{ComparesBy, both_messages, compare_outcome, compared_answer, differences_by}
 use Rattle.engine_core.specs.Outcomes.{telling_of}
 

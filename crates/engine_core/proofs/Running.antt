@@ -3,18 +3,18 @@ use Rattle.std.proofs.Common.{◌≡◌, ◌∙◌, ℕ, Bool, true, false, cond
 use Rattle.text_bytes.specs.declared.profile.Profile.{Profile}
 use Rattle.text_bytes.specs.declared.source_file.SourceFile.{SourceFile}
 use Rattle.text_bytes.specs.Text.{Text}
-use Rattle.hwdb_lookup.specs.declared.entry.Entry.{Entry}
-use Rattle.builtin_knowledge.specs.Knowledge.{FilesFound, Known}
+use Rattle.trie_nodes.specs.declared.entry.Entry.{Entry}
+use Rattle.builtin_devices.specs.Knowledge.{FilesFound, Known}
 use Rattle.rule_types.specs.Rules.{Rule}
 use Rattle.device_core.specs.Values.{EventValue}
-use Rattle.engine_ends.specs.declared.line.Format.{Format}
-use Rattle.engine_ends.specs.declared.line.Line.{Line}
-use Rattle.engine_ends.specs.Streams.{Streams, outputs}
-use Rattle.engine_ends.specs.Delivery.{RunOutcome, Delivers, ReportsFailure, ReportsFaults, out_of_memory}
-use Rattle.index_reading.specs.declared.fault.IndexFault.{IndexFault}
-use Rattle.index_reading.specs.Contents.{Contents}
+use Rattle.engine_sessions.specs.declared.line.Format.{Format}
+use Rattle.engine_sessions.specs.declared.line.Line.{Line}
+use Rattle.engine_sessions.specs.Streams.{Streams, outputs}
+use Rattle.engine_sessions.specs.Delivery.{RunOutcome, Delivers, ReportsFailure, ReportsFaults, out_of_memory}
+use Rattle.trie_build.specs.declared.index_fault.IndexFault.{IndexFault}
+use Rattle.trie_build.specs.Contents.{Contents}
 use Rattle.engine_formats.specs.Masked.{shown_in}
-use Rattle.engine_lookups.specs.Databases.{LooksUpBy, lookups_by}
+use Rattle.engine_reports.specs.LookupDatabases.{LooksUpBy, lookups_by}
 use Rattle.engine_reports.specs.Databases.{DatabaseValue, database}
 use Rattle.engine_reports.specs.Openings.{OpeningValue}
 use Rattle.engine_reports.specs.Indexes.{refused_index}

@@ -3,16 +3,16 @@
 use Rattle.std.specs.Prelude.{ℕ, Bool, if◌then◌else◌, List, ◌++◌, Option, Result, Ok, Err, codes}
 use Rattle.text_bytes.specs.declared.source_file.SourceFile.{SourceFile}
 use Rattle.text_bytes.specs.Text.{Text}
-use Rattle.index_reading.specs.declared.fault.IndexFault.{IndexFault}
-use Rattle.index_reading.specs.Contents.{Contents}
+use Rattle.trie_build.specs.declared.index_fault.IndexFault.{IndexFault}
+use Rattle.trie_build.specs.Contents.{Contents}
 use Rattle.device_core.specs.Values.{EventValue}
-use Rattle.builtin_knowledge.specs.Knowledge.{FilesFound, Known}
+use Rattle.builtin_devices.specs.Knowledge.{FilesFound, Known}
 use Rattle.rule_types.specs.Rules.{Rule}
 use Rattle.engine_answers.specs.Answers.{answer_by, sourced_lines}
 use Rattle.engine_core.specs.Outcomes.{is_json, known_for, telling_of}
-use Rattle.engine_ends.specs.declared.line.Line.{Line}
-use Rattle.engine_ends.specs.Delivery.{RunOutcome}
-use Rattle.engine_ends.specs.Streams.{Streams}
+use Rattle.engine_sessions.specs.declared.line.Line.{Line}
+use Rattle.engine_sessions.specs.Delivery.{RunOutcome}
+use Rattle.engine_sessions.specs.Streams.{Streams}
 use Rattle.engine_formats.specs.Masked.{shown_in}
 use Rattle.engine_reports.specs.Indexes.{Opens}
 use Rattle.engine_reports.specs.Openings.{OpeningValue, opening}
@@ -20,8 +20,8 @@ use Rattle.engine_sessions.specs.Findings.{FindsAll, found}
 use Rattle.engine_sessions.specs.Outcomes.{input_outcome}
 use Rattle.engine_sessions.specs.Serves.{Reports, Serves}
 use Rattle.engine_sessions.specs.Sessions.{answers_as}
-use Rattle.engine_compare.specs.Differences.{ShownAnswer, marked_text}
-use Rattle.engine_compare.specs.Objects.{compared}
+use Rattle.engine_answers.specs.Differences.{ShownAnswer, marked_text}
+use Rattle.engine_answers.specs.Objects.{compared}
 
 -- an answer to an event, and the answer as it is shown: with sources each line is after the place of the rule that it comes from
 abbrev pub compared_answer : (sources : Bool) → List Rule → Known → EventValue → ShownAnswer

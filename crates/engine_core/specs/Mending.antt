@@ -8,9 +8,9 @@ use Rattle.text_bytes.specs.declared.source_file.SourceFile.{SourceFile}
 use Rattle.text_bytes.specs.declared.source_file.FileKind.TheVariants.{Rules}
 use Rattle.text_bytes.specs.Text.{Text}
 use Rattle.text_tables.specs.Texts.{same_text}
-use Rattle.rule_format.specs.Mended.{mended}
-use Rattle.engine_ends.specs.declared.line.Line.{Line}
-use Rattle.engine_ends.specs.Delivery.{RunOutcome}
+use Rattle.rule_places.specs.Mended.{mended}
+use Rattle.engine_sessions.specs.declared.line.Line.{Line}
+use Rattle.engine_sessions.specs.Delivery.{RunOutcome}
 use Rattle.engine_reports.specs.FilesRead.{files_read}
 
 -- files with their commas and blanks mended, one after another

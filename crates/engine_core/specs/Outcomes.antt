@@ -4,22 +4,22 @@ use Rattle.std.specs.Prelude.{Bool, true, false, not, ◌||◌, ◌&&◌, ◌==�
 use Rattle.std.specs.Str.{bytes_eq}
 use Rattle.text_bytes.specs.Text.{Text}
 use Rattle.text_bytes.specs.declared.source_file.SourceFile.{SourceFile}
-use Rattle.index_reading.specs.declared.fault.IndexFault.{IndexFault}
-use Rattle.index_reading.specs.Contents.{Contents}
+use Rattle.trie_build.specs.declared.index_fault.IndexFault.{IndexFault}
+use Rattle.trie_build.specs.Contents.{Contents}
 use Rattle.device_core.specs.Values.{EventValue}
-use Rattle.engine_ends.specs.declared.line.Format.{Format}
-use Rattle.engine_ends.specs.declared.line.Format.TheVariants.{Json}
-use Rattle.engine_ends.specs.declared.line.Line.{Line}
-use Rattle.engine_ends.specs.Readers.{is_for_people}
-use Rattle.engine_ends.specs.declared.line.Verb.{Verb}
-use Rattle.engine_ends.specs.declared.line.Verb.TheVariants.{Update, Query, Verify, Events, Mend}
-use Rattle.engine_ends.specs.Delivery.{RunOutcome}
-use Rattle.engine_lookups.specs.Databases.{lookups_by}
+use Rattle.engine_sessions.specs.declared.line.Format.{Format}
+use Rattle.engine_sessions.specs.declared.line.Format.TheVariants.{Json}
+use Rattle.engine_sessions.specs.declared.line.Line.{Line}
+use Rattle.engine_sessions.specs.Readers.{is_for_people}
+use Rattle.engine_sessions.specs.declared.line.Verb.{Verb}
+use Rattle.engine_sessions.specs.declared.line.Verb.TheVariants.{Update, Query, Verify, Events, Mend}
+use Rattle.engine_sessions.specs.Delivery.{RunOutcome}
+use Rattle.engine_reports.specs.LookupDatabases.{lookups_by}
 use Rattle.engine_reports.specs.Databases.{database}
 use Rattle.engine_reports.specs.Openings.{OpeningValue, opening}
 use Rattle.engine_reports.specs.Outcomes.{query_over, usage_error}
 use Rattle.builtin_core.specs.Builtins.{known_by}
-use Rattle.builtin_knowledge.specs.Knowledge.{FilesFound, Known}
+use Rattle.builtin_devices.specs.Knowledge.{FilesFound, Known}
 use Rattle.engine_answers.specs.Answers.{answer_by}
 use Rattle.engine_checks.specs.Outcomes.{update_outcome, verify_outcome}
 use Rattle.engine_courses.specs.Asked.{unknown}

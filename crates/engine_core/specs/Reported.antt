@@ -3,14 +3,14 @@ use Rattle.std.specs.Prelude.{Bool, if◌then◌else◌, List, [], ◌∷◌, �
 use Rattle.text_bytes.specs.Names.{newline}
 use Rattle.file_messages.specs.declared.message.Message.{Message}
 use Rattle.text_bytes.specs.Text.{Text}
-use Rattle.builtin_knowledge.specs.Knowledge.{Known}
+use Rattle.builtin_devices.specs.Knowledge.{Known}
 use Rattle.rule_types.specs.Rules.{Rule}
 use Rattle.device_core.specs.Values.{EventValue}
-use Rattle.device_notes.specs.Tried.{tried}
+use Rattle.device_core.specs.Tried.{tried}
 use Rattle.eval_unread.specs.Unread.{whole_outcome}
 use Rattle.engine_answers.specs.Answers.{answer_lines, sourced_lines}
 use Rattle.engine_courses.specs.WhyLines.{why_lines}
-use Rattle.engine_json.specs.Answers.{json_answer}
+use Rattle.engine_answers.specs.JsonAnswers.{json_answer}
 
 -- what is asked for, whether JSON, whether sources and for which rules what they met, and what events are answered by: the
 -- messages about the rules, and the rules

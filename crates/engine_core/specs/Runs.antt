@@ -2,14 +2,14 @@
 use Rattle.std.specs.Prelude.{◌≡◌, ℕ, true, false, List, Option, Result, Ok, Err}
 use Rattle.text_bytes.specs.declared.source_file.SourceFile.{SourceFile}
 use Rattle.text_bytes.specs.Text.{Text}
-use Rattle.index_reading.specs.declared.fault.IndexFault.{IndexFault}
-use Rattle.index_reading.specs.Contents.{Contents}
-use Rattle.builtin_knowledge.specs.Knowledge.{FilesFound}
-use Rattle.engine_ends.specs.declared.line.Line.{Line}
-use Rattle.engine_ends.specs.Streams.{Streams}
-use Rattle.engine_ends.specs.Delivery.{RunOutcome}
+use Rattle.trie_build.specs.declared.index_fault.IndexFault.{IndexFault}
+use Rattle.trie_build.specs.Contents.{Contents}
+use Rattle.builtin_devices.specs.Knowledge.{FilesFound}
+use Rattle.engine_sessions.specs.declared.line.Line.{Line}
+use Rattle.engine_sessions.specs.Streams.{Streams}
+use Rattle.engine_sessions.specs.Delivery.{RunOutcome}
 use Rattle.engine_formats.specs.Masked.{shown_in}
-use Rattle.engine_lookups.specs.Databases.{LooksUpBy}
+use Rattle.engine_reports.specs.LookupDatabases.{LooksUpBy}
 use Rattle.engine_reports.specs.Databases.{database}
 use Rattle.engine_reports.specs.Indexes.{Opens}
 use Rattle.engine_reports.specs.Openings.{OpeningValue}

@@ -1,7 +1,7 @@
 //! Rules as they were read, and what is known beyond an event, as one thing that says of events what the rules ask.
 ghost use Rattle.std.specs.Prelude.{◌≡◌};
 
-use builtin_knowledge::Knowledge;
+use builtin_devices::Knowledge;
 use device_core::Event;
 use engine_courses::question_answer;
 use engine_sessions::Answering;

@@ -1,6 +1,6 @@
 //! `compare`: the messages about two sets of rules, and then what appears and disappears between their answers.
 ghost use Rattle.std.specs.Prelude.{◌≡◌, Ok, Err, Some, None, IfOk, IfErr, option_map, Result};
-ghost use Rattle.engine_ends.specs.Delivery.{RunOutcome};
+ghost use Rattle.engine_sessions.specs.Delivery.{RunOutcome};
 ghost use Rattle.engine_core.specs.Comparing.{ComparesBy, ComparesOver, both_messages, differences_by};
 ghost use Rattle.engine_core.specs.Outcomes.{telling_of};
 ghost use Rattle.engine_reports.specs.Indexes.{entries_in};
@@ -14,18 +14,17 @@ use crate::events::{is_json, telling_of};
 use crate::shared::Shared;
 use crate::sides::ComparedTables;
 use builtin_core::Builtins;
-use builtin_knowledge::RootFiles;
-use engine_compare::{Compared, marked};
-use engine_ends::{Line, Sink, Source, report_out_of_memory};
+use builtin_devices::RootFiles;
+use engine_answers::{Compared, marked};
 use engine_formats::shown_in;
 use engine_reports::{
     Refusal, RulesRead, deliver_refusal, open_index, open_rules, open_with_database,
 };
-use engine_sessions::find_after_messages;
-use hwdb_lookup::Lookup;
-use index_reading::{Index, IndexFault};
+use engine_sessions::{Line, Sink, Source, find_after_messages, report_out_of_memory};
 use std::alloc::{AllocError, Global};
 use text_bytes::SourceFile;
+use trie_build::{Index, IndexFault};
+use trie_nodes::Lookup;
 
 /// Compares the answers to the events of an input by two sets of rules, writes what appears and disappears, and
 /// returns the status to exit with.

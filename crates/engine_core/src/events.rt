@@ -1,6 +1,6 @@
 //! `events`: the messages, and then the answers to the blocks of the input.
 ghost use Rattle.std.specs.Prelude.{◌≡◌, true, false, Ok, IfOk, IfErr, Some, Result};
-ghost use Rattle.engine_ends.specs.Delivery.{RunOutcome};
+ghost use Rattle.engine_sessions.specs.Delivery.{RunOutcome};
 ghost use Rattle.engine_core.specs.Outcomes.{added_of, asked_of, asks_more, is_json, telling_of, why_of};
 ghost use Rattle.engine_core.specs.Runs.{AnswersBy, RunsBy};
 ghost use Rattle.engine_reports.specs.Indexes.{entries_in};
@@ -14,20 +14,22 @@ ghost use Rattle.engine_courses.specs.Unused.{unused_lines};
 use crate::asked::AskedTables;
 use crate::reported::ReportedTables;
 use builtin_core::Builtins;
-use builtin_knowledge::{Knowledge, RootFiles};
+use builtin_devices::{Knowledge, RootFiles};
 use engine_answers::Tables;
 use engine_courses::{UnusedTally, first_unknown};
-use engine_ends::{Format, Line, Sink, Source, report_out_of_memory};
 use engine_formats::shown_in;
 use engine_reports::{
     Refusal, RulesRead, deliver_refusal, deliver_usage_error, open_rules, open_with_database,
 };
-use engine_sessions::{Answering, Telling, answer_after_messages, answer_and_tally};
-use hwdb_lookup::Lookup;
-use index_reading::{Index, IndexFault};
+use engine_sessions::{
+    Answering, Format, Line, Sink, Source, Telling, answer_after_messages, answer_and_tally,
+    report_out_of_memory,
+};
 use rule_types::Rule;
 use std::alloc::Global;
 use text_bytes::SourceFile;
+use trie_build::{Index, IndexFault};
+use trie_nodes::Lookup;
 
 /// Reads what events are answered by, writes the messages about it, answers the input, both by the line's profile,
 /// and returns the status to exit with. The database is the index that was opened, or otherwise that of the files;

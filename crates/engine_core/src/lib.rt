@@ -19,12 +19,11 @@ mod sides;
 pub use asked::AskedTables;
 pub use comparing::serve_compare;
 pub use engine_answers::Tables;
-pub use engine_ends::{
-    Color, DeviceFault, Format, Line, LineFault, MemorySink, MemorySource, Request, Sink, SinkOver,
-    Source, SourceOver, Verb, deliver, hand_on, hand_on_each, report_failure, report_in_pieces,
-    report_out_of_memory, write_all,
+pub use engine_sessions::{
+    Answering, Color, DeviceFault, Format, Line, LineFault, MemorySink, MemorySource, Request,
+    Session, SessionFault, Sink, SinkOver, Source, SourceOver, Step, TurnFault, Verb, deliver,
+    hand_on, hand_on_each, report_failure, report_in_pieces, report_out_of_memory, turn, write_all,
 };
-pub use engine_sessions::{Answering, Session, SessionFault, Step, TurnFault, turn};
-pub use index_reading::{Index, IndexFault};
 pub use reported::ReportedTables;
 pub use serving::serve;
+pub use trie_build::{Index, IndexFault};

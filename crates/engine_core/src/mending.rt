@@ -3,9 +3,9 @@ ghost use Rattle.std.specs.Prelude.{◌≡◌, ◌<◌, ◌++◌, IfErr, IfOk, O
 ghost use Rattle.engine_core.specs.Mending.{answer, changed_line, changed_names, is_changed, mend_said, mended_texts, status_of};
 ghost use Rattle.engine_reports.specs.Reports.{IsSaid, said};
 
-use engine_ends::Line;
 use engine_reports::{Refusal, Report, files_read};
-use rule_format::mended_rules;
+use engine_sessions::Line;
+use rule_places::mended_rules;
 use std::alloc::{AllocError, Global};
 use text_bytes::{FileKind, SourceFile, escape};
 

@@ -5,14 +5,13 @@ ghost use Rattle.engine_core.specs.Runs.{RunsBy, RunsOver};
 
 use crate::events::serve_events;
 use crate::mending::report_on_mending;
-use builtin_knowledge::RootFiles;
+use builtin_devices::RootFiles;
 use engine_checks::{report_on_update, report_on_verify};
-use engine_ends::{Line, Sink, Source, Verb};
-use engine_lookups::serve_lookups;
-use engine_reports::{deliver_report, open_index, report_on_query};
-use index_reading::{Index, IndexFault};
+use engine_reports::{deliver_report, open_index, report_on_query, serve_lookups};
+use engine_sessions::{Line, Sink, Source, Verb};
 use std::alloc::Global;
 use text_bytes::SourceFile;
+use trie_build::{Index, IndexFault};
 
 /// Runs a command over files that were read, writes what it says, and returns the status to exit with.
 ///

@@ -1,9 +1,9 @@
 //! One database that several programs query.
 ghost use Rattle.std.specs.Prelude.{◌≡◌};
 
-use hwdb_lookup::{Lookup, Sourced};
 use std::alloc::{AllocError, Global};
 use std::marker::Model;
+use trie_nodes::{Lookup, Sourced};
 
 /// A borrowed database, so that more than one program can query it.
 #[derive(Drop)]

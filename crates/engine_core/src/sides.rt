@@ -2,10 +2,9 @@
 ghost use Rattle.std.specs.Prelude.{◌≡◌, IfOk};
 ghost use Rattle.engine_core.specs.Comparing.{compared_answer};
 
-use builtin_knowledge::Knowledge;
+use builtin_devices::Knowledge;
 use device_core::Event;
-use engine_answers::Tables;
-use engine_compare::Side;
+use engine_answers::{Side, Tables};
 use engine_sessions::Answering;
 use rule_types::RuleSet;
 use std::alloc::{AllocError, Global};

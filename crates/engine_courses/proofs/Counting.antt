@@ -8,7 +8,7 @@ use Rattle.std.proofs.lemmas.List.Sums.{sum_by-cons}
 use Rattle.text_bytes.specs.Names.{newline}
 use Rattle.text_bytes.specs.Text.{Text}
 use Rattle.rule_types.specs.Rules.{Rule}
-use Rattle.engine_ends.specs.Places.{place_of}
+use Rattle.engine_sessions.specs.Places.{place_of}
 use Rattle.eval_courses.specs.Fates.{keys_of}
 use Rattle.eval_courses.specs.declared.fate.Fate.{Fate}
 use Rattle.eval_courses.specs.declared.fate.Fate.TheVariants.{Passed, Stopped, Met}

@@ -1,10 +1,10 @@
 -- The counts of each rule are those of its own fates.
 use Rattle.std.proofs.Common.{◌≡◌, ℕ, zero, suc, ◌<◌, List, [], ◌∷◌, length, map, fold, get_or, refl, ap, sym, ◌∙◌, subst, arith}
 use Rattle.std.proofs.lemmas.List.{get_or-map, length-map}
-use Rattle.builtin_knowledge.specs.Knowledge.{Known}
+use Rattle.builtin_devices.specs.Knowledge.{Known}
 use Rattle.rule_types.specs.Rules.{Rule}
 use Rattle.device_core.specs.Values.{EventValue}
-use Rattle.device_notes.specs.Tried.{tried}
+use Rattle.device_core.specs.Tried.{tried}
 use Rattle.eval_courses.specs.Fates.{fates}
 use Rattle.eval_courses.specs.declared.fate.Fate.{Fate}
 use Rattle.eval_courses.specs.declared.fate.Fate.TheVariants.{Passed}

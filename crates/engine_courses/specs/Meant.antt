@@ -1,7 +1,7 @@
 -- The file that a text of `--why` may mean, if it names none of those that were read.
 use Rattle.std.specs.Prelude.{Bool, List, Option, None, find, if◌then◌else◌, length, map, nat_lt, option_and_then}
 use Rattle.std.specs.Option.{option_or}
-use Rattle.text_links.specs.Kernels.{last_component}
+use Rattle.text_bytes.specs.Kernels.{last_component}
 use Rattle.text_bytes.specs.Text.{Text}
 use Rattle.text_tables.specs.Texts.{same_text}
 use Rattle.engine_formats.specs.Near as near

@@ -5,7 +5,7 @@ use Rattle.std.specs.List.{suffix_len}
 use Rattle.text_bytes.specs.Names.{colon, slash}
 use Rattle.text_bytes.specs.Numbers.{is_digit}
 use Rattle.text_bytes.specs.Texts.{ends_in, without_last}
-use Rattle.text_links.specs.Kernels.{last_component}
+use Rattle.text_bytes.specs.Kernels.{last_component}
 use Rattle.text_bytes.specs.Text.{Text}
 
 -- whether a path leads through a folder

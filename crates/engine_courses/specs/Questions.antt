@@ -2,11 +2,11 @@
 use Rattle.std.specs.Prelude.{List, [], ◌∷◌, ◌++◌, codes, flat_map}
 use Rattle.text_bytes.specs.Names.{newline}
 use Rattle.text_bytes.specs.Text.{Text}
-use Rattle.builtin_knowledge.specs.Knowledge.{Known}
+use Rattle.builtin_devices.specs.Knowledge.{Known}
 use Rattle.rule_types.specs.Rules.{Rule}
 use Rattle.device_core.specs.Values.{EventValue}
-use Rattle.device_notes.specs.Tried.{tried}
-use Rattle.engine_ends.specs.EventLine.{event_line}
+use Rattle.device_core.specs.Tried.{tried}
+use Rattle.engine_sessions.specs.EventLine.{event_line}
 use Rattle.eval_courses.specs.Questions.{questions}
 
 -- a command as the line of a block that asks it

@@ -1,10 +1,10 @@
 -- How often each rule was reached by events, and how often it ended at each of its keys.
 use Rattle.std.specs.Prelude.{ℕ, ◌+◌, List, [], ◌∷◌, map, fold, slice_index_or, slice_set}
 use Rattle.text_bytes.specs.Text.{Text}
-use Rattle.builtin_knowledge.specs.Knowledge.{Known}
+use Rattle.builtin_devices.specs.Knowledge.{Known}
 use Rattle.rule_types.specs.Rules.{Rule}
 use Rattle.device_core.specs.Values.{EventValue}
-use Rattle.device_notes.specs.Tried.{tried}
+use Rattle.device_core.specs.Tried.{tried}
 use Rattle.eval_courses.specs.Fates.{fates, keys_of}
 use Rattle.eval_courses.specs.declared.fate.Fate.{Fate}
 use Rattle.eval_courses.specs.declared.fate.Fate.TheVariants.{Passed, Stopped, Met}

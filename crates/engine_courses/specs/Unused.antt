@@ -6,13 +6,13 @@ use Rattle.text_bytes.specs.Kinds.{suffix_of}
 use Rattle.text_bytes.specs.Names.{newline}
 use Rattle.text_bytes.specs.Texts.{is_empty}
 use Rattle.text_bytes.specs.declared.source_file.FileKind.TheVariants.{Hwdb}
-use Rattle.text_links.specs.Kernels.{last_component}
+use Rattle.text_bytes.specs.Kernels.{last_component}
 use Rattle.text_bytes.specs.Text.{Text}
 use Rattle.text_tables.specs.Texts.{is_among}
-use Rattle.builtin_knowledge.specs.Knowledge.{Known}
+use Rattle.builtin_devices.specs.Knowledge.{Known}
 use Rattle.rule_types.specs.Rules.{Rule}
 use Rattle.device_core.specs.Values.{EventValue}
-use Rattle.engine_ends.specs.Places.{place_of}
+use Rattle.engine_sessions.specs.Places.{place_of}
 use Rattle.eval_courses.specs.Fates.{keys_of}
 use Rattle.engine_courses.specs.Rows.{Row, counted, unreached}
 

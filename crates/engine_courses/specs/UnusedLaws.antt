@@ -1,9 +1,9 @@
 -- What counts are about: the fates of one rule at all events.
 use Rattle.std.specs.Prelude.{ℕ, ◌==◌, Bool, true, false, List, map, fold, slice_index_or}
-use Rattle.builtin_knowledge.specs.Knowledge.{Known}
+use Rattle.builtin_devices.specs.Knowledge.{Known}
 use Rattle.rule_types.specs.Rules.{Rule}
 use Rattle.device_core.specs.Values.{EventValue}
-use Rattle.device_notes.specs.Tried.{tried}
+use Rattle.device_core.specs.Tried.{tried}
 use Rattle.eval_courses.specs.Fates.{fates}
 use Rattle.eval_courses.specs.declared.fate.Fate.{Fate}
 use Rattle.eval_courses.specs.declared.fate.Fate.TheVariants.{Passed, Stopped, Met}

@@ -4,10 +4,10 @@ use Rattle.std.specs.Prelude.{ℕ, Bool, if◌then◌else◌, is_some, List, [],
 use Rattle.text_bytes.specs.Names.{newline}
 use Rattle.file_messages.specs.declared.message.Message.{Message}
 use Rattle.text_bytes.specs.Text.{Text}
-use Rattle.builtin_knowledge.specs.Knowledge.{Known}
+use Rattle.builtin_devices.specs.Knowledge.{Known}
 use Rattle.rule_types.specs.Rules.{Rule}
 use Rattle.device_core.specs.Values.{EventValue}
-use Rattle.device_notes.specs.Tried.{tried}
+use Rattle.device_core.specs.Tried.{tried}
 use Rattle.eval_state.specs.Scenes.{start}
 use Rattle.eval_state.specs.declared.scene.Scene.{Scene}
 use Rattle.eval_rules.specs.Jumps.{is_passed, sought_after}
@@ -15,7 +15,7 @@ use Rattle.eval_rules.specs.Steps.{apply}
 use Rattle.eval_effects.specs.Named.{rule_place}
 use Rattle.eval_effects.specs.Since.{Since, no_since, since_after}
 use Rattle.eval_courses.specs.Courses.{course}
-use Rattle.engine_ends.specs.Places.{place_of, word_part}
+use Rattle.engine_sessions.specs.Places.{place_of, word_part}
 use Rattle.file_catalogue.specs.Catalogue.{remark_heading}
 use Rattle.file_catalogue.specs.declared.remark.Remark.TheVariants as about
 use Rattle.engine_courses.specs.Asked.{is_asked, unread}

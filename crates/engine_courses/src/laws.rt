@@ -4,7 +4,7 @@ ghost use Rattle.std.specs.List.{list_all, list_any};
 ghost use Rattle.file_messages.specs.declared.message.Message as messages;
 ghost use Rattle.text_bytes.specs.Text.{Text};
 ghost use Rattle.text_tables.specs.Texts.{same_text};
-ghost use Rattle.builtin_knowledge.specs.Knowledge.{Known};
+ghost use Rattle.builtin_devices.specs.Knowledge.{Known};
 ghost use Rattle.rule_types.specs.Rules as rules;
 ghost use Rattle.device_core.specs.Values.{EventValue};
 ghost use Rattle.engine_courses.specs.Asked.{is_asked, unknown};

@@ -2,7 +2,7 @@
 ghost use Rattle.std.specs.Prelude.{◌≡◌, ◌++◌, Some, IfOk, OnOk, option_map};
 ghost use Rattle.engine_courses.specs.WhyLines.{passed_texts, rule_lines, unread_text, why_line};
 
-use engine_ends::{push_place, push_word};
+use engine_sessions::{push_place, push_word};
 use eval_effects::push_rule;
 use file_catalogue::Remark;
 use file_messages::Message;

@@ -6,7 +6,7 @@ use crate::named::file_in;
 use crate::places::Place;
 use engine_formats::nearest;
 use std::alloc::{AllocError, Global};
-use text_links::last_component;
+use text_bytes::last_component;
 
 /// The most bytes that the name of a file has.
 const MOST_NAME: usize = 255;

@@ -2,8 +2,7 @@
 ghost use Rattle.std.specs.Prelude.{◌≡◌};
 ghost use Rattle.engine_courses.specs.Named.{alike, file_in, has_folder};
 
-use text_bytes::{ends_in, find, without_last};
-use text_links::{last_component, trailing_digits};
+use text_bytes::{ends_in, find, last_component, trailing_digits, without_last};
 
 /// A text and the name of a file, as they are compared.
 #[derive(Clone, Copy)]

@@ -2,10 +2,9 @@
 ghost use Rattle.std.specs.Prelude.{◌≡◌, ◌++◌, IfOk, OnOk};
 ghost use Rattle.engine_courses.specs.Questions.{question_answer, question_line, question_lines};
 
-use builtin_knowledge::Knowledge;
-use device_core::Event;
-use device_notes::tried;
-use engine_ends::push_event;
+use builtin_devices::Knowledge;
+use device_core::{Event, tried};
+use engine_sessions::push_event;
 use eval_courses::questions;
 use rule_types::RuleSet;
 use std::alloc::{AllocError, Global};

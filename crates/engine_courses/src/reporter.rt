@@ -10,7 +10,7 @@ ghost use Rattle.engine_courses.specs.WhyLines.{jumping_after, passed_texts, rep
 
 use crate::asked::is_asked;
 use crate::lines::{push_course, push_passed};
-use builtin_knowledge::Knowledge;
+use builtin_devices::Knowledge;
 use eval_acts::act_step;
 use eval_assignments::set_all;
 use eval_courses::{report_act, report_moment};

@@ -5,7 +5,7 @@ ghost use Rattle.eval_effects.specs.Since.{no_since};
 ghost use Rattle.engine_courses.specs.WhyLines.{reported_from, rule_lines};
 
 use crate::reporter::Reporter;
-use builtin_knowledge::Knowledge;
+use builtin_devices::Knowledge;
 use device_core::Event;
 use eval_rules::run_watched;
 use eval_state::Scene;

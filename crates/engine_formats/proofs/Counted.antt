@@ -6,7 +6,7 @@ use Rattle.text_bytes.specs.Escapes.{escape_byte, escape_text, is_control}
 use Rattle.text_bytes.specs.Lines.{lines}
 use Rattle.text_bytes.specs.Names.{carriage_return, colon, comma, newline, question_mark, space, tab}
 use Rattle.text_bytes.specs.Texts.{begins_with}
-use Rattle.engine_ends.specs.Places.{place_of, word_part}
+use Rattle.engine_sessions.specs.Places.{place_of, word_part}
 use Rattle.file_catalogue.specs.Catalogue.{advice_of}
 use Rattle.engine_formats.specs.Diagnostics.{DiagnosticValue}
 use Rattle.engine_formats.specs.Github.{github_line, github_place, github_property, github_text}

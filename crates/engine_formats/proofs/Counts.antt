@@ -9,10 +9,10 @@ use Rattle.text_bytes.specs.Names.{colon}
 use Rattle.text_bytes.specs.Text.{Text}
 use Rattle.text_tables.specs.Texts.{AreOnce, is_among, same_text}
 use Rattle.text_tables.specs.Pairs.{with_value}
-use Rattle.text_tallies.specs.Surplus.{times}
-use Rattle.text_tallies.specs.Tallies.{Tallies, left_of}
-use Rattle.text_tallies.proofs.Counting.{among_some, are_same, is_same, one_if, times-append, times-cons, times-push}
-use Rattle.text_tallies.proofs.Tallying.{tally_item}
+use Rattle.text_tables.specs.Surplus.{times}
+use Rattle.text_tables.specs.Tallies.{Tallies, left_of}
+use Rattle.text_tables.proofs.Counting.{among_some, are_same, is_same, one_if, times-append, times-cons, times-push}
+use Rattle.text_tables.proofs.Tallying.{tally_item}
 use Rattle.engine_formats.specs.Diagnostics.{DiagnosticValue}
 use Rattle.engine_formats.specs.Fingerprints.{FingerprintedValue, fingerprint_after, fingerprinted, fingerprinted_after, fingerprints, mark_of}
 use Rattle.engine_formats.proofs.OneLine.{Lacks, decimal_lacks, or_parts}

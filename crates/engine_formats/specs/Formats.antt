@@ -1,8 +1,8 @@
 -- The formats that diagnostics can be written in.
 use Rattle.std.specs.Prelude.{Bool, true, false, List, flat_map}
 use Rattle.text_bytes.specs.Text.{Text}
-use Rattle.engine_ends.specs.declared.line.Format.{Format}
-use Rattle.engine_ends.specs.declared.line.Format.TheVariants.{Plain, Gcc, Github, Gitlab, Json, Sarif, Human, HumanInColor}
+use Rattle.engine_sessions.specs.declared.line.Format.{Format}
+use Rattle.engine_sessions.specs.declared.line.Format.TheVariants.{Plain, Gcc, Github, Gitlab, Json, Sarif, Human, HumanInColor}
 use Rattle.file_catalogue.specs.Catalogue.{remarks}
 use Rattle.engine_formats.specs.Diagnostics.{DiagnosticValue}
 use Rattle.engine_formats.specs.Github.{github_line}

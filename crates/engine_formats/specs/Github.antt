@@ -3,7 +3,7 @@ use Rattle.std.specs.Prelude.{ℕ, ◌==◌, if◌then◌else◌, [], ◌∷◌,
 use Rattle.text_bytes.specs.Text.{Text}
 use Rattle.text_bytes.specs.Escapes.{is_control}
 use Rattle.text_bytes.specs.Names.{carriage_return, colon, comma, newline, percent}
-use Rattle.engine_ends.specs.Places.{word_part}
+use Rattle.engine_sessions.specs.Places.{word_part}
 use Rattle.engine_formats.specs.Diagnostics.{DiagnosticValue}
 use Rattle.file_catalogue.specs.Catalogue.{code_of, severity_of, severity_word, text_of}
 use Rattle.engine_formats.specs.Uris.{percent_byte}

@@ -4,7 +4,7 @@ use Rattle.std.specs.Str.Lossy.{utf8_lossy}
 use Rattle.text_bytes.specs.Text.{Text}
 use Rattle.text_bytes.specs.Names.{newline}
 use Rattle.text_json.specs.Values.{array_of, number_value, object_of}
-use Rattle.engine_ends.specs.Places.{word_part}
+use Rattle.engine_sessions.specs.Places.{word_part}
 use Rattle.json.specs.Json.{Json, string}
 use Rattle.json.specs.Print.{print}
 use Rattle.json.specs.Tree.{json_tokens}

@@ -4,7 +4,7 @@ use Rattle.text_bytes.specs.Text.{Text}
 use Rattle.text_bytes.specs.Escapes.{escape_text}
 use Rattle.text_bytes.specs.Texts.{word_of}
 use Rattle.text_bytes.specs.Names.{colon, newline}
-use Rattle.engine_ends.specs.Places.{place_of, word_part}
+use Rattle.engine_sessions.specs.Places.{place_of, word_part}
 use Rattle.engine_formats.specs.Diagnostics.{DiagnosticValue}
 use Rattle.file_catalogue.specs.Catalogue.{code_of, remark_heading, severity_of, severity_word, text_of}
 use Rattle.file_catalogue.specs.declared.remark.Remark.{Remark}

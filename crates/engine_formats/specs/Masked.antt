@@ -1,8 +1,8 @@
 -- Texts for a terminal, without the characters of UTF-8 that it would obey.
 use Rattle.std.specs.Prelude.{ℕ, Bool, ◌==◌, ◌&&◌, ◌||◌, nat_le, if◌then◌else◌, [], ◌∷◌}
 use Rattle.text_bytes.specs.Text.{Text}
-use Rattle.engine_ends.specs.Readers.{is_for_people}
-use Rattle.engine_ends.specs.declared.line.Format.{Format}
+use Rattle.engine_sessions.specs.Readers.{is_for_people}
+use Rattle.engine_sessions.specs.declared.line.Format.{Format}
 
 -- whether a byte is in a range, both ends included
 abbrev pub is_within : ℕ → ℕ → ℕ → Bool

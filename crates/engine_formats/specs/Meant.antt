@@ -8,7 +8,7 @@ use Rattle.text_bytes.specs.Text.{Text}
 use Rattle.text_tables.specs.Texts.{is_among}
 use Rattle.file_messages.specs.declared.message.MessageKind.{MessageKind}
 use Rattle.file_messages.specs.declared.message.MessageKind.TheVariants.{UnknownKey, BadValue, BadSubstitution, UnknownBuiltin, BadAttributeSubstitution}
-use Rattle.rule_templates.specs.Names.{long_names}
+use Rattle.rule_tokens.specs.Names.{long_names}
 use Rattle.rule_types.specs.Builtins.{builtin_name, builtins, first_word}
 use Rattle.rule_types.specs.Names.{key_name, keys}
 use Rattle.engine_formats.specs.Near.{nearest}

@@ -3,9 +3,9 @@ use Rattle.std.specs.Prelude.{if◌then◌else◌, ◌∷◌, ◌++◌}
 use Rattle.text_bytes.specs.Text.{Text}
 use Rattle.text_bytes.specs.Names.{slash}
 use Rattle.text_bytes.specs.declared.source_file.SourceFile.{SourceFile}
-use Rattle.engine_ends.specs.Folders.{folder_path}
-use Rattle.engine_ends.specs.Kinds.{names_files_of}
-use Rattle.engine_ends.specs.declared.line.Line.{Line}
+use Rattle.engine_sessions.specs.Folders.{folder_path}
+use Rattle.engine_sessions.specs.Kinds.{names_files_of}
+use Rattle.engine_sessions.specs.declared.line.Line.{Line}
 
 -- the path of a file in its folder, after a root
 abbrev pub path_in_folder : Text → SourceFile → Text

@@ -3,7 +3,7 @@ use Rattle.std.specs.Prelude.{ℕ, ◌+◌, ◌-◌, not, ◌==◌, ◌||◌, Bo
 use Rattle.text_bytes.specs.Text.{Text}
 use Rattle.text_bytes.specs.Names.{close_brace, newline, open_brace}
 use Rattle.text_bytes.specs.Numbers.{capped}
-use Rattle.engine_ends.specs.Places.{word_part}
+use Rattle.engine_sessions.specs.Places.{word_part}
 use Rattle.json.specs.Json.{Json, string}
 use Rattle.json.specs.Print.{print}
 use Rattle.json.specs.Tree.{json_tokens}

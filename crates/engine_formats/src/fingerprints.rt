@@ -7,7 +7,7 @@ ghost use Rattle.std.specs.Prelude.{◌≡◌, ◌+◌, ◌^◌, ◌<◌, ◌∷
 ghost use Rattle.text_bytes.specs.Names.{colon};
 ghost use Rattle.engine_formats.specs.Diagnostics.{shown};
 ghost use Rattle.text_tables.specs.Pairs.{with_value};
-ghost use Rattle.text_tallies.specs.Tallies.{left_of};
+ghost use Rattle.text_tables.specs.Tallies.{left_of};
 ghost use Rattle.engine_formats.specs.Fingerprints.{fingerprinted, line_part, mark_of, shown_given};
 
 use crate::diagnostic::Diagnostic;
@@ -15,8 +15,7 @@ use crate::marks::{following, prefix};
 use crate::parts::push_part;
 use itoa::Buffer;
 use std::alloc::{AllocError, Global};
-use text_tables::Table;
-use text_tallies::count_one;
+use text_tables::{Table, count_one};
 
 /// At most how many bytes a line has that a fingerprint has whole.
 const MOST_OF_LINE: usize = 200;

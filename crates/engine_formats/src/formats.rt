@@ -11,7 +11,7 @@ use crate::human::human_lines;
 use crate::objects::json_lines;
 use crate::plain::plain_lines;
 use crate::sarif::sarif_log;
-use engine_ends::Format;
+use engine_sessions::Format;
 use file_catalogue::remarks;
 use std::alloc::{AllocError, Global};
 

@@ -5,7 +5,7 @@ ghost use Rattle.engine_formats.specs.Lines.{code_part, gcc_line, spot_of};
 
 use crate::diagnostic::Diagnostic;
 use crate::parts::push_number;
-use engine_ends::push_word;
+use engine_sessions::push_word;
 use file_catalogue::Remark;
 use std::alloc::{AllocError, Global};
 use text_bytes::escape;

@@ -1,14 +1,14 @@
 //! Diagnostics as workflow commands of GitHub, which shows each at its line.
 ghost use Rattle.std.specs.Prelude.{◌≡◌, ◌∷◌, [], ◌++◌, decimal, map, flat_map, IfOk, OnOk};
 ghost use Rattle.text_bytes.specs.Names.{newline};
-ghost use Rattle.engine_ends.specs.Places.{word_part};
+ghost use Rattle.engine_sessions.specs.Places.{word_part};
 ghost use Rattle.engine_formats.specs.Diagnostics.{shown};
 ghost use Rattle.engine_formats.specs.Github.{github_line, github_place, github_text};
 ghost use Rattle.file_catalogue.specs.Catalogue.{text_of};
 
 use crate::diagnostic::Diagnostic;
 use crate::github_escapes::{push_github_property, push_github_text};
-use engine_ends::push_word;
+use engine_sessions::push_word;
 use file_catalogue::Remark;
 use itoa::Buffer;
 use std::alloc::{AllocError, Global};

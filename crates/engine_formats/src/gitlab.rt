@@ -1,6 +1,6 @@
 //! Diagnostics as a report of code quality for GitLab.
 ghost use Rattle.std.specs.Prelude.{◌≡◌, ◌++◌, map, flat_map, IfOk, OnOk};
-ghost use Rattle.engine_ends.specs.Places.{word_part};
+ghost use Rattle.engine_sessions.specs.Places.{word_part};
 ghost use Rattle.json.specs.Tree.{json_tokens};
 ghost use Rattle.engine_formats.specs.Diagnostics.{shown};
 ghost use Rattle.engine_formats.specs.Fingerprints.{shown_given};
@@ -11,7 +11,7 @@ ghost use Rattle.file_catalogue.specs.Catalogue.{remark_heading};
 use crate::diagnostic::Diagnostic;
 use crate::fingerprints::{Fingerprinted, with_fingerprints};
 use crate::json_members::write_text;
-use engine_ends::push_word;
+use engine_sessions::push_word;
 use file_catalogue::{Remark, Severity};
 use json::Writer;
 use std::alloc::{AllocError, Global};

@@ -10,7 +10,7 @@ ghost use Rattle.text_bytes.specs.Texts.{word_of};
 ghost use Rattle.file_messages.specs.declared.message.Message.{Message};
 ghost use Rattle.text_bytes.specs.declared.source_file.SourceFile.{SourceFile};
 ghost use Rattle.hwdb_core.specs.Sources.{messages_of};
-ghost use Rattle.engine_ends.specs.declared.line.Format.{Format};
+ghost use Rattle.engine_sessions.specs.declared.line.Format.{Format};
 ghost use Rattle.engine_reports.specs.Messages.{message_lines};
 ghost use Rattle.engine_formats.specs.Diagnostics.{DiagnosticValue};
 ghost use Rattle.engine_formats.specs.Formats.{formatted};

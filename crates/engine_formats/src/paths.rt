@@ -2,7 +2,7 @@
 ghost use Rattle.std.specs.Prelude.{◌≡◌, IfOk};
 ghost use Rattle.engine_formats.specs.Paths.{path_in_folder, path_of};
 
-use engine_ends::{Line, folder_path};
+use engine_sessions::{Line, folder_path};
 use std::alloc::{AllocError, Global};
 use text_bytes::SourceFile;
 

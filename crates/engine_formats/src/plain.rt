@@ -4,7 +4,7 @@ ghost use Rattle.engine_formats.specs.Diagnostics.{shown};
 ghost use Rattle.engine_formats.specs.Lines.{plain_line};
 
 use crate::diagnostic::Diagnostic;
-use engine_ends::{push_place, push_word};
+use engine_sessions::{push_place, push_word};
 use std::alloc::{AllocError, Global};
 use text_bytes::word_of;
 

@@ -9,7 +9,7 @@ ghost use Rattle.text_bytes.specs.Names.{colon, slash};
 ghost use Rattle.text_bytes.specs.Texts.{begins_with};
 ghost use Rattle.text_tables.specs.Texts.{AreOnce, is_among};
 ghost use Rattle.json.specs.Json.{document};
-ghost use Rattle.engine_ends.specs.declared.line.Format.{Format};
+ghost use Rattle.engine_sessions.specs.declared.line.Format.{Format};
 ghost use Rattle.file_catalogue.specs.Catalogue.{remarks};
 ghost use Rattle.engine_formats.specs.Diagnostics.{DiagnosticValue};
 ghost use Rattle.engine_formats.specs.Formats.{formatted};

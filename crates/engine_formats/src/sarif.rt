@@ -1,6 +1,6 @@
 //! Diagnostics as a log of static analysis, as SARIF 2.1.0 has it.
 ghost use Rattle.std.specs.Prelude.{◌≡◌, ◌∷◌, ◌++◌, [], codes, map, flat_map, IfOk, OnOk};
-ghost use Rattle.engine_ends.specs.Places.{word_part};
+ghost use Rattle.engine_sessions.specs.Places.{word_part};
 ghost use Rattle.json.specs.Json.{string};
 ghost use Rattle.json.specs.Token as token;
 ghost use Rattle.json.specs.Tree.{json_tokens};
@@ -17,7 +17,7 @@ use crate::diagnostic::Diagnostic;
 use crate::fingerprints::{Fingerprinted, with_fingerprints};
 use crate::json_members::write_text;
 use crate::uris::uri_of;
-use engine_ends::push_word;
+use engine_sessions::push_word;
 use file_catalogue::Remark;
 use json::Writer;
 use std::alloc::{AllocError, Global};

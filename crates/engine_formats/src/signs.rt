@@ -6,7 +6,7 @@
 ghost use Rattle.std.specs.Prelude.{◌≡◌};
 ghost use Rattle.engine_formats.specs.Masked.{masked, masked_byte, shown_in};
 
-use engine_ends::Format;
+use engine_sessions::Format;
 
 /// A text in which no character is a control character of two bytes, a mark of direction, or an end of a line that is not of
 /// ASCII.

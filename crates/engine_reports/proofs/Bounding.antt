@@ -16,7 +16,7 @@ use Rattle.hwdb_core.specs.Paragraphs.{Cut}
 use Rattle.hwdb_core.specs.Properties.{Pair, Property, cut_match_bytes, cut_properties, from_line, from_pair, from_spelled, gives_entry, pair_of}
 use Rattle.hwdb_core.specs.Sources.{WithinBounds, cuts_of, entries_from, entries_of, entry_at, match_bytes_of, properties_of, text_len}
 use Rattle.hwdb_core.proofs.Bounds.{HoldFew, within_few}
-use Rattle.hwdb_lookup.specs.declared.entry.Entry.{Entry}
+use Rattle.trie_nodes.specs.declared.entry.Entry.{Entry}
 use Rattle.trie_build.specs.Distinct.{IsIn}
 use Rattle.trie_build.specs.Paths.{paths_of, patterns_of}
 use Rattle.trie_build.specs.Sizes.{KeepsBounds, names_of}

@@ -5,7 +5,7 @@ use Rattle.std.proofs.Math.Dec.{leb}
 use Rattle.text_bytes.specs.declared.source_file.SourceFile.{SourceFile}
 use Rattle.file_messages.specs.declared.message.Message.{Message}
 use Rattle.text_bytes.specs.declared.profile.Profile.{Profile}
-use Rattle.hwdb_lookup.specs.declared.entry.Entry.{Entry}
+use Rattle.trie_nodes.specs.declared.entry.Entry.{Entry}
 use Rattle.hwdb_core.specs.Sources.{WithinBounds, are_few, entries_of, messages_of}
 use Rattle.hwdb_core.specs.declared.fault.HwdbFault.{HwdbFault}
 use Rattle.hwdb_core.specs.declared.fault.HwdbFault.TheVariants as hwdb
@@ -13,8 +13,8 @@ use Rattle.rule_types.specs.Rules.{tokens_in}
 use Rattle.rule_core.specs.Rules.{set_of_as}
 use Rattle.rule_core.specs.declared.fault.RulesFault.{RulesFault}
 use Rattle.rule_core.specs.declared.fault.RulesFault.TheVariants as rules
-use Rattle.index_reading.specs.declared.fault.IndexFault.{IndexFault}
-use Rattle.engine_ends.specs.Delivery.{RunOutcome}
+use Rattle.trie_build.specs.declared.index_fault.IndexFault.{IndexFault}
+use Rattle.engine_sessions.specs.Delivery.{RunOutcome}
 use Rattle.engine_reports.specs.Databases.{database_of}
 use Rattle.engine_reports.specs.Messages.{message_lines}
 use Rattle.engine_reports.specs.Outcomes.{database_outcome, too_many_entries, too_many_rules}

@@ -2,9 +2,9 @@
 use Rattle.std.proofs.Common.{◌≡◌, ℕ, Bool, true, false, cond, List, ◌∷◌, [], refl, ap}
 use Rattle.std.specs.List.{filter}
 use Rattle.file_messages.specs.declared.message.Message.{Message}
-use Rattle.hwdb_lookup.specs.Query.{fitting}
-use Rattle.hwdb_lookup.specs.declared.entry.Entry.{Entry}
-use Rattle.engine_ends.specs.declared.line.Line.{Line}
+use Rattle.trie_nodes.specs.Query.{fitting}
+use Rattle.trie_nodes.specs.declared.entry.Entry.{Entry}
+use Rattle.engine_sessions.specs.declared.line.Line.{Line}
 use Rattle.engine_reports.specs.Answers.{answer_lines}
 use Rattle.engine_reports.specs.Outcomes.{query_outcome}
 

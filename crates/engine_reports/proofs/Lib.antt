@@ -1,3 +1,10 @@
+pub mod LineLemmas
+pub mod AnswerLemmas
+pub mod TakingLemmas
+pub mod InputLemmas
+pub mod Serving
+pub mod LawLemmas
+pub mod LongLines
 pub mod Bounding
 pub mod Bounds
 pub mod Fitting

@@ -2,9 +2,9 @@
 use Rattle.std.specs.Prelude.{ℕ, Bool, ◌==◌, if◌then◌else◌, List, [], ◌∷◌, ◌++◌, length, codes, flat_map}
 use Rattle.text_bytes.specs.Text.{Text}
 use Rattle.text_bytes.specs.Names.{equals, newline}
-use Rattle.hwdb_lookup.specs.Query.{Origin, query, sourced}
-use Rattle.hwdb_lookup.specs.declared.entry.Entry.{Entry}
-use Rattle.engine_ends.specs.Places.{place_of}
+use Rattle.trie_nodes.specs.Query.{Origin, query, sourced}
+use Rattle.trie_nodes.specs.declared.entry.Entry.{Entry}
+use Rattle.engine_sessions.specs.Places.{place_of}
 
 -- a property's line, `KEY=VALUE`, both as they are in the database
 unfoldable pub property_line : Text → Text → Text

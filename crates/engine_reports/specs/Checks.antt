@@ -4,7 +4,7 @@ use Rattle.std.specs.List.{count_by}
 use Rattle.text_bytes.specs.declared.source_file.SourceFile.{SourceFile}
 use Rattle.text_bytes.specs.Text.{Text}
 use Rattle.text_tables.specs.Texts.{is_among}
-use Rattle.engine_ends.specs.Delivery.{RunOutcome}
+use Rattle.engine_sessions.specs.Delivery.{RunOutcome}
 
 -- how many of the files are bad: something is reported under their name
 abbrev pub bad_count : List SourceFile → List Text → ℕ

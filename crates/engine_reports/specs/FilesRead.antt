@@ -6,8 +6,8 @@ use Rattle.text_bytes.specs.declared.source_file.SourceFile.{SourceFile}
 use Rattle.text_bytes.specs.declared.source_file.FileKind.{FileKind}
 use Rattle.text_bytes.specs.declared.source_file.FileKind.TheVariants.{Rules}
 use Rattle.rule_core.specs.Ends.{file_as_read}
-use Rattle.engine_ends.specs.Kinds.{names_files_of, same_kind}
-use Rattle.engine_ends.specs.declared.line.Line.{Line}
+use Rattle.engine_sessions.specs.Kinds.{names_files_of, same_kind}
+use Rattle.engine_sessions.specs.declared.line.Line.{Line}
 
 -- those of the files that are of a kind
 abbrev pub of_kind : FileKind → List SourceFile → List SourceFile

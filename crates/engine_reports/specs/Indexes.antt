@@ -2,13 +2,13 @@
 use Rattle.std.specs.Prelude.{◌≡◌, ◌⊎◌, List, [], ◌∷◌, ◌++◌, Option, Some, None, Result, Ok, Err, codes}
 use Rattle.text_bytes.specs.Names.{newline}
 use Rattle.text_bytes.specs.Text.{Text}
-use Rattle.hwdb_lookup.specs.declared.entry.Entry.{Entry}
+use Rattle.trie_nodes.specs.declared.entry.Entry.{Entry}
 use Rattle.trie_nodes.specs.Values.{listed}
-use Rattle.index_reading.specs.Accepted.{Accepted, FailsFirst}
-use Rattle.index_reading.specs.declared.fault.IndexFault.{IndexFault}
-use Rattle.index_reading.specs.FaultTexts.{fault_text}
-use Rattle.index_reading.specs.Contents.{Contents, contents}
-use Rattle.engine_ends.specs.Delivery.{RunOutcome}
+use Rattle.trie_build.specs.Accepted.{Accepted, FailsFirst}
+use Rattle.trie_build.specs.declared.index_fault.IndexFault.{IndexFault}
+use Rattle.trie_build.specs.IndexFaultTexts.{fault_text}
+use Rattle.trie_build.specs.Contents.{Contents, contents}
+use Rattle.engine_sessions.specs.Delivery.{RunOutcome}
 
 -- The outcome of opening an index: nothing if none is passed in; what its bytes hold if they are accepted, and else
 -- the first check that they fail.

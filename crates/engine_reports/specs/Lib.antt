@@ -1,3 +1,8 @@
+pub mod LookupOutcomes
+pub mod Runs
+pub mod LookupDatabases
+pub mod Taking
+pub mod Inputs
 pub mod Reports
 pub mod FilesRead
 pub mod Checks

@@ -2,7 +2,7 @@
 use Rattle.std.specs.Prelude.{List, [], ◌∷◌, ◌++◌, flat_map}
 use Rattle.text_bytes.specs.Text.{Text}
 use Rattle.text_bytes.specs.Names.{newline}
-use Rattle.engine_ends.specs.Places.{place_of, word_part}
+use Rattle.engine_sessions.specs.Places.{place_of, word_part}
 use Rattle.file_catalogue.specs.Catalogue.{remark_heading}
 use Rattle.file_catalogue.specs.declared.remark.Remark.TheVariants as about
 use Rattle.file_messages.specs.declared.message.Message.{Message}

@@ -4,14 +4,14 @@ use Rattle.text_bytes.specs.declared.source_file.SourceFile.{SourceFile}
 use Rattle.text_bytes.specs.declared.source_file.FileKind.TheVariants.{Hwdb}
 use Rattle.file_messages.specs.declared.message.Message.{Message}
 use Rattle.text_bytes.specs.Text.{Text}
-use Rattle.hwdb_lookup.specs.declared.entry.Entry.{Entry}
+use Rattle.trie_nodes.specs.declared.entry.Entry.{Entry}
 use Rattle.hwdb_core.specs.Sources.{are_few, entries_of, messages_of}
 use Rattle.rule_types.specs.Rules.{Rule, tokens_in}
-use Rattle.index_reading.specs.declared.fault.IndexFault.{IndexFault}
-use Rattle.index_reading.specs.Contents.{Contents}
-use Rattle.engine_ends.specs.declared.line.Line.{Line}
+use Rattle.trie_build.specs.declared.index_fault.IndexFault.{IndexFault}
+use Rattle.trie_build.specs.Contents.{Contents}
+use Rattle.engine_sessions.specs.declared.line.Line.{Line}
 use Rattle.engine_reports.specs.Answers.{answer_lines}
-use Rattle.engine_ends.specs.Delivery.{RunOutcome}
+use Rattle.engine_sessions.specs.Delivery.{RunOutcome}
 use Rattle.engine_reports.specs.FilesRead.{files_read}
 use Rattle.engine_reports.specs.Indexes.{entries_in, refused_index}
 use Rattle.engine_reports.specs.Messages.{message_lines}

@@ -1,12 +1,12 @@
 -- Serves the contracts of the calls between this crate and `engine_core`; no reader of `serve` has to believe it.
 -- What a report holds, as an outcome, and what is said if there is none.
 use Rattle.std.specs.Prelude.{◌≡◌, IfOk, IfErr, List, Result, Err}
-use Rattle.hwdb_lookup.specs.declared.entry.Entry.{Entry}
+use Rattle.trie_nodes.specs.declared.entry.Entry.{Entry}
 use Rattle.hwdb_core.specs.declared.fault.HwdbFault as hwdb
 use Rattle.hwdb_core.specs.declared.fault.HwdbFault.TheVariants as database
 use Rattle.rule_core.specs.declared.fault.RulesFault.{RulesFault}
 use Rattle.rule_core.specs.declared.fault.RulesFault.TheVariants as rules
-use Rattle.engine_ends.specs.Delivery.{RunOutcome}
+use Rattle.engine_sessions.specs.Delivery.{RunOutcome}
 use Rattle.engine_reports.specs.Indexes.{refused_index}
 use Rattle.engine_reports.specs.Outcomes.{too_many_entries, too_many_rules}
 use Rattle.engine_reports.specs.Openings.{OpeningValue}

@@ -1,11 +1,11 @@
 //! The answer to a modalias as lines.
 ghost use Rattle.std.specs.Prelude.{◌≡◌, ◌++◌, map, flat_map, IfOk, OnOk};
-ghost use Rattle.hwdb_lookup.specs.Query.{shown, shown_origin};
+ghost use Rattle.trie_nodes.specs.Query.{shown, shown_origin};
 ghost use Rattle.engine_reports.specs.Answers.{answer_lines, origin_line, origin_of, pair_line, property_line};
 
-use engine_ends::push_place;
-use hwdb_lookup::{Lookup, Sourced};
+use engine_sessions::push_place;
 use std::alloc::{AllocError, Global};
+use trie_nodes::{Lookup, Sourced};
 
 /// The lines that answer a modalias, sorted by key: `KEY=VALUE`, and with `sources` the file and
 /// line of each property before it.

@@ -14,14 +14,13 @@ use crate::file_choice::files_read;
 use crate::messages::message_lines;
 use crate::refusal::Refusal;
 use crate::report::Report;
-use engine_ends::Line;
+use engine_sessions::Line;
 use file_messages::Message;
 use hwdb_core::{read_fitting, read_sources};
-use hwdb_lookup::{Lookup, PlainDb};
-use index_reading::{Index, IndexFault};
 use std::alloc::{AllocError, Global};
 use text_bytes::{FileKind, SourceFile};
-use trie_build::{Trie, trie_of};
+use trie_build::{Index, IndexFault, Trie, trie_of};
+use trie_nodes::{Lookup, PlainDb};
 
 /// What `query` says about the files of the database, or about the index that was opened instead.
 ///

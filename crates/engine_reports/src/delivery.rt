@@ -1,13 +1,13 @@
 //! Writing a report, or why there is none.
 ghost use Rattle.std.specs.Prelude.{◌≡◌, ◌<◌, IfOk};
-ghost use Rattle.engine_ends.specs.Delivery.{Delivers, ReportsFailure, ReportsFaults, RunOutcome, out_of_memory};
+ghost use Rattle.engine_sessions.specs.Delivery.{Delivers, ReportsFailure, ReportsFaults, RunOutcome, out_of_memory};
 ghost use Rattle.engine_reports.specs.Outcomes.{usage_error};
 ghost use Rattle.engine_reports.specs.Reports.{IsReport, IsSaid};
 
 use crate::indexes::deliver_index_fault;
 use crate::refusal::Refusal;
 use crate::report::Report;
-use engine_ends::{Sink, deliver, deliver_in_pieces, report_out_of_memory};
+use engine_sessions::{Sink, deliver, deliver_in_pieces, report_out_of_memory};
 
 /// The line on files that hold more than a database may.
 const TOO_MANY_ENTRIES: &[u8] = b"devdry: hwdb: too many\n";

@@ -2,7 +2,7 @@
 ghost use Rattle.std.specs.Prelude.{◌≡◌, IfOk};
 ghost use Rattle.engine_reports.specs.FilesRead.{chosen, files_read, of_kind};
 
-use engine_ends::{Line, same_kind};
+use engine_sessions::{Line, same_kind};
 use std::alloc::{AllocError, Global};
 use text_bytes::{FileKind, SourceFile, order_files};
 

@@ -3,11 +3,11 @@
 //! It is checked as a whole before anything is read from it, so that a damaged one is refused by name and never
 //! gives a wrong answer.
 ghost use Rattle.std.specs.Prelude.{option_map};
-ghost use Rattle.engine_ends.specs.Delivery.{Delivers};
+ghost use Rattle.engine_sessions.specs.Delivery.{Delivers};
 ghost use Rattle.engine_reports.specs.Indexes.{Opens, refused_index};
 
-use engine_ends::{Sink, deliver_in_pieces};
-use index_reading::{Index, IndexFault};
+use engine_sessions::{Sink, deliver_in_pieces};
+use trie_build::{Index, IndexFault};
 
 /// The outcome of opening an index file, if one is passed in: the index, or the first check that it fails.
 ///

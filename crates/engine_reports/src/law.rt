@@ -1,8 +1,8 @@
 //! Why an index has one meaning.
 ghost use Rattle.std.specs.Prelude.{◌≡◌, Option, Result};
 ghost use Rattle.text_bytes.specs.Text.{Text};
-ghost use Rattle.index_reading.specs.declared.fault.IndexFault.{IndexFault};
-ghost use Rattle.index_reading.specs.Contents.{Contents};
+ghost use Rattle.trie_build.specs.declared.index_fault.IndexFault.{IndexFault};
+ghost use Rattle.trie_build.specs.Contents.{Contents};
 ghost use Rattle.engine_reports.specs.Indexes.{Opens};
 
 /// The law of opening an index.

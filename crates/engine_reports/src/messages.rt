@@ -3,7 +3,7 @@ ghost use Rattle.std.specs.Prelude.{◌≡◌, ◌++◌, IfOk, OnOk};
 ghost use Rattle.engine_reports.specs.Messages.{message_line, message_lines};
 ghost use Rattle.engine_reports.specs.Openings.{without_style};
 
-use engine_ends::{push_place, push_word};
+use engine_sessions::{push_place, push_word};
 use file_catalogue::Remark;
 use file_messages::Message;
 use std::alloc::{AllocError, Global};

@@ -1,8 +1,8 @@
 //! What comes before the first answer to an event.
 ghost use Rattle.std.specs.Prelude.{◌≡◌, List, [], None, Ok, IfOk, IfErr};
-ghost use Rattle.hwdb_lookup.specs.Orders.{Rising};
+ghost use Rattle.trie_nodes.specs.Orders.{Rising};
 ghost use Rattle.trie_build.specs.Sizes.{KeepsBounds};
-ghost use Rattle.hwdb_lookup.specs.declared.entry.Entry.{Entry};
+ghost use Rattle.trie_nodes.specs.declared.entry.Entry.{Entry};
 ghost use Rattle.engine_reports.specs.FilesRead.{rules_read};
 ghost use Rattle.engine_reports.specs.Openings.{opening, opening_by, opening_messages, opening_within};
 ghost use Rattle.engine_reports.specs.Reports.{IsRefused, shown_rules};
@@ -10,14 +10,14 @@ ghost use Rattle.engine_reports.specs.Reports.{IsRefused, shown_rules};
 use crate::file_choice::{both_read, files_read};
 use crate::messages::{message_lines, plain_message_lines};
 use crate::refusal::Refusal;
-use engine_ends::Line;
+use engine_sessions::Line;
 use file_messages::Message;
 use hwdb_core::read_sources;
-use hwdb_lookup::Entry;
 use rule_core::{ReadRules, files_as_read, read_rules_as};
 use std::alloc::{AllocError, Global};
 use text_bytes::{FileKind, Profile, SourceFile};
 use trie_build::{Trie, trie_of};
+use trie_nodes::Entry;
 
 /// The rules and messages of rules files.
 #[derive(Drop)]

@@ -2,9 +2,9 @@
 ghost use Rattle.std.specs.Prelude.{◌≡◌};
 
 use hwdb_core::HwdbFault;
-use index_reading::IndexFault;
 use rule_core::RulesFault;
 use std::alloc::{AllocError, AllocFailed};
+use trie_build::IndexFault;
 
 /// Why a run has nothing to say about its files, or about its index.
 #[derive(Clone, Copy, PartialEq, Eq, Drop)]

@@ -5,10 +5,10 @@ use Rattle.std.proofs.lemmas.List.{append-nil}
 use Rattle.text_bytes.specs.Text.{Text}
 use Rattle.device_core.specs.Values.{EventValue}
 use Rattle.device_core.specs.declared.faults.BlockFault.{BlockFault}
-use Rattle.engine_ends.specs.Reported.{followed_by}
-use Rattle.engine_ends.specs.Sinks.{BreaksOff, HandsOn, SinkState}
-use Rattle.engine_ends.specs.Streams.{Streams, outputs}
-use Rattle.engine_ends.specs.Delivery.{IsWhole, ReportsFailure, out_of_memory}
+use Rattle.engine_sessions.specs.Reported.{followed_by}
+use Rattle.engine_sessions.specs.Sinks.{BreaksOff, HandsOn, SinkState}
+use Rattle.engine_sessions.specs.Streams.{Streams, outputs}
+use Rattle.engine_sessions.specs.Delivery.{IsWhole, ReportsFailure, out_of_memory}
 use Rattle.engine_sessions.specs.Turns.{joined, say_something}
 use Rattle.engine_sessions.specs.Answers.{answers_of}
 use Rattle.engine_sessions.specs.Inputs.{AnswersInput, devices_of}

@@ -6,9 +6,9 @@ use Rattle.std.proofs.lemmas.Grind.{flat_map-append}
 use Rattle.text_bytes.specs.Text.{Text}
 use Rattle.device_core.specs.Values.{EventValue}
 use Rattle.device_core.specs.RunBlocks.{most_bytes}
-use Rattle.engine_ends.specs.Sinks.{HandsOn, SinkState}
-use Rattle.engine_ends.specs.Sources.{SourceState}
-use Rattle.engine_ends.specs.Streams.{Streams}
+use Rattle.engine_sessions.specs.Sinks.{HandsOn, SinkState}
+use Rattle.engine_sessions.specs.Sources.{SourceState}
+use Rattle.engine_sessions.specs.Streams.{Streams}
 use Rattle.engine_sessions.specs.Sessions.{Held, SessionTakes, opened}
 use Rattle.engine_sessions.specs.Turns.{Sends, SendsDue, TurnFailsBy, Turns, due, joined, say_something}
 use Rattle.engine_sessions.specs.Inputs.{devices_of, most_turns}

@@ -3,8 +3,8 @@ use Rattle.std.proofs.Common.{◌≡◌, ℕ, ◌+◌, ◌≤◌, ◌==◌, ◌|
 use Rattle.text_bytes.specs.Text.{Text}
 use Rattle.device_core.specs.Values.{EventValue}
 use Rattle.device_core.specs.RunBlocks.{most_bytes}
-use Rattle.engine_ends.specs.Sinks.{SinkState}
-use Rattle.engine_ends.specs.Sources.{SourceState}
+use Rattle.engine_sessions.specs.Sinks.{SinkState}
+use Rattle.engine_sessions.specs.Sources.{SourceState}
 use Rattle.engine_sessions.specs.Sessions.{Held, opened}
 use Rattle.engine_sessions.specs.Turns.{TurnFailsBy, joined}
 use Rattle.engine_sessions.specs.Inputs.{most_turns}

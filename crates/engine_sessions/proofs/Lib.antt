@@ -1,3 +1,9 @@
+pub mod Utf8
+pub mod Reported
+pub mod Breaks
+pub mod Escaped
+pub mod Counting
+pub mod Plain
 pub mod LawLemmas
 pub mod TurnLemmas
 pub mod AnswerLemmas

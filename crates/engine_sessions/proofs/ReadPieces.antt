@@ -7,12 +7,12 @@ use Rattle.std.proofs.Math.Seq.{take-length}
 use Rattle.text_bytes.specs.Text.{Text}
 use Rattle.device_core.specs.Runs.{rest_of}
 use Rattle.device_core.specs.RunBlocks.{most_bytes}
-use Rattle.engine_ends.specs.Reported.{followed_by, led_by, NoneLeft}
-use Rattle.engine_ends.specs.Counts.{Counts}
-use Rattle.engine_ends.specs.Sources.{Gives, SourceFails, SourceState}
-use Rattle.engine_ends.specs.Sinks.{SinkState}
-use Rattle.engine_ends.proofs.Counting.{counts-more}
-use Rattle.engine_ends.proofs.Reported.{followed_by-append}
+use Rattle.engine_sessions.specs.Reported.{followed_by, led_by, NoneLeft}
+use Rattle.engine_sessions.specs.Counts.{Counts}
+use Rattle.engine_sessions.specs.Sources.{Gives, SourceFails, SourceState}
+use Rattle.engine_sessions.specs.Sinks.{SinkState}
+use Rattle.engine_sessions.proofs.Counting.{counts-more}
+use Rattle.engine_sessions.proofs.Reported.{followed_by-append}
 use Rattle.engine_sessions.specs.Turns.{joined, Reads}
 use Rattle.engine_sessions.specs.Inputs.{all_but_last, BeforeReads, GoesOn, Devices, HoldsFew, ReadsWell, ReadsToFault}
 

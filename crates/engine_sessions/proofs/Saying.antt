@@ -4,10 +4,10 @@ use Rattle.std.proofs.lemmas.Bool.{ne_eqb}
 use Rattle.std.proofs.lemmas.List.{append-nil}
 use Rattle.text_bytes.specs.Text.{Text}
 use Rattle.device_core.specs.Values.{EventValue}
-use Rattle.engine_ends.specs.Counts.{Counts}
-use Rattle.engine_ends.specs.Sinks.{BreaksOff, HandsOn, HasBegun, SinkState}
-use Rattle.engine_ends.specs.Streams.{Streams, outputs}
-use Rattle.engine_ends.specs.Delivery.{IsWhole, ReportsFailure, RunOutcome, out_of_memory, write_failed}
+use Rattle.engine_sessions.specs.Counts.{Counts}
+use Rattle.engine_sessions.specs.Sinks.{BreaksOff, HandsOn, HasBegun, SinkState}
+use Rattle.engine_sessions.specs.Streams.{Streams, outputs}
+use Rattle.engine_sessions.specs.Delivery.{IsWhole, ReportsFailure, RunOutcome, out_of_memory, write_failed}
 use Rattle.engine_sessions.specs.Turns.{Sends, joined}
 use Rattle.engine_sessions.specs.Inputs.{AnswersInput, Devices, devices_of}
 use Rattle.engine_sessions.specs.Outcomes.{input_outcome, no_block_line, tells_none}

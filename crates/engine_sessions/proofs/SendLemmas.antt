@@ -3,9 +3,9 @@ use Rattle.std.proofs.Common.{◌≡◌, List, [], ◌∷◌, ◌++◌, refl, ap
 use Rattle.std.proofs.lemmas.List.{append-nil}
 use Rattle.std.proofs.lemmas.Grind.{flat_map-append}
 use Rattle.text_bytes.specs.Text.{Text}
-use Rattle.engine_ends.specs.Reported.{followed_by}
-use Rattle.engine_ends.specs.Sinks.{SinkState, HandsOn}
-use Rattle.engine_ends.proofs.Reported.{followed_by-append, followed_by-nil}
+use Rattle.engine_sessions.specs.Reported.{followed_by}
+use Rattle.engine_sessions.specs.Sinks.{SinkState, HandsOn}
+use Rattle.engine_sessions.proofs.Reported.{followed_by-append, followed_by-nil}
 use Rattle.engine_sessions.specs.Turns.{Sends, joined}
 
 pub hands_after : (before between now : SinkState) (first second : Text) → HandsOn before first between → HandsOn between second now → HandsOn before (first ++ second) now

@@ -8,11 +8,11 @@ use Rattle.text_bytes.specs.Text.{Text}
 use Rattle.device_core.specs.Runs.{complete_runs, rest_of, not_empty}
 use Rattle.device_core.specs.Values.{EventValue}
 use Rattle.device_core.specs.declared.faults.BlockFault.{BlockFault}
-use Rattle.engine_ends.specs.Reported.{followed_by, led_by, NoneLeft}
-use Rattle.engine_ends.specs.Counts.{Counts}
-use Rattle.engine_ends.specs.Sinks.{BreaksOff, HandsOn, HasBegun, SinkState}
-use Rattle.engine_ends.specs.Streams.{Streams, outputs}
-use Rattle.engine_ends.proofs.Reported.{followed_by-append, followed_by-nil}
+use Rattle.engine_sessions.specs.Reported.{followed_by, led_by, NoneLeft}
+use Rattle.engine_sessions.specs.Counts.{Counts}
+use Rattle.engine_sessions.specs.Sinks.{BreaksOff, HandsOn, HasBegun, SinkState}
+use Rattle.engine_sessions.specs.Streams.{Streams, outputs}
+use Rattle.engine_sessions.proofs.Reported.{followed_by-append, followed_by-nil}
 use Rattle.engine_sessions.specs.Answers.{answers_to, answers_of, well, number_after}
 use Rattle.engine_sessions.specs.Turns.{Sends, joined}
 use Rattle.engine_sessions.specs.declared.session.SessionFault.TheVariants.{Block, Memory, Ended}
@@ -21,7 +21,7 @@ use Rattle.engine_sessions.specs.declared.turning.TurnFault.TheVariants.{Read, W
 use Rattle.engine_sessions.proofs.AnswerLemmas.{answers_to-append}
 use Rattle.engine_sessions.proofs.LawLemmas.{until}
 use Rattle.engine_sessions.proofs.SendLemmas.{hands_after, sends_taken, sends_well}
-use Rattle.engine_ends.specs.Delivery.{Delivers, IsWhole, ReportsFailure, RunOutcome, out_of_memory, write_failed}
+use Rattle.engine_sessions.specs.Delivery.{Delivers, IsWhole, ReportsFailure, RunOutcome, out_of_memory, write_failed}
 use Rattle.engine_sessions.specs.BlockFaults.{block_said}
 use Rattle.engine_sessions.specs.Inputs.{AnswersInput, devices_of}
 use Rattle.engine_sessions.specs.Outcomes.{answered, answered_until, input_outcome, no_block_line, tells_none}

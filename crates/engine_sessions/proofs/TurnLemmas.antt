@@ -10,8 +10,8 @@ use Rattle.device_core.specs.RunBlocks.{most_bytes}
 use Rattle.device_core.specs.Splits.{Split}
 use Rattle.device_core.proofs.Law.{complete_runs-append, rest_of-append}
 use Rattle.device_core.specs.Values.{EventValue}
-use Rattle.engine_ends.specs.Sinks.{SinkState}
-use Rattle.engine_ends.specs.Sources.{SourceState}
+use Rattle.engine_sessions.specs.Sinks.{SinkState}
+use Rattle.engine_sessions.specs.Sources.{SourceState}
 use Rattle.engine_sessions.specs.Answers.{answers_to, well, counted, number_after}
 use Rattle.engine_sessions.specs.Known.{known_blocks}
 use Rattle.engine_sessions.specs.Sessions.{Held, closed, SessionTakes, SessionEnds, CallFailsBy}

@@ -7,11 +7,11 @@ use Rattle.device_core.specs.RunBlocks.{most_bytes}
 use Rattle.device_core.proofs.Law.{complete_runs-append, rest_of-append}
 use Rattle.device_core.specs.Values.{EventValue}
 use Rattle.device_core.specs.declared.faults.BlockFault.{BlockFault}
-use Rattle.engine_ends.specs.Reported.{followed_by, led_by}
-use Rattle.engine_ends.specs.Sources.{SourceState}
-use Rattle.engine_ends.specs.Sinks.{SinkState}
-use Rattle.engine_ends.proofs.Counting.{counts-none}
-use Rattle.engine_ends.proofs.Reported.{followed_by-nil}
+use Rattle.engine_sessions.specs.Reported.{followed_by, led_by}
+use Rattle.engine_sessions.specs.Sources.{SourceState}
+use Rattle.engine_sessions.specs.Sinks.{SinkState}
+use Rattle.engine_sessions.proofs.Counting.{counts-none}
+use Rattle.engine_sessions.proofs.Reported.{followed_by-nil}
 use Rattle.engine_sessions.specs.Answers.{Answers, answers_to, answers_of, well, counted, number_after}
 use Rattle.engine_sessions.specs.Sessions.{Held, opened}
 use Rattle.engine_sessions.specs.Turns.{Sends, joined, Reads, SendsDue, due, Refuses, Turns, TurnFailsBy}

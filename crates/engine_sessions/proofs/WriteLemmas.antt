@@ -2,9 +2,9 @@
 use Rattle.std.proofs.Common.{◌≡◌, inl, inr, [], ◌∷◌, ◌++◌, refl, ap, sym, ◌∙◌, subst}
 use Rattle.std.proofs.lemmas.List.{append-nil}
 use Rattle.text_bytes.specs.Text.{Text}
-use Rattle.engine_ends.specs.Reported.{followed_by}
-use Rattle.engine_ends.specs.Sinks.{HandsOn, SinkState}
-use Rattle.engine_ends.proofs.Reported.{followed_by-nil}
+use Rattle.engine_sessions.specs.Reported.{followed_by}
+use Rattle.engine_sessions.specs.Sinks.{HandsOn, SinkState}
+use Rattle.engine_sessions.proofs.Reported.{followed_by-nil}
 use Rattle.engine_sessions.specs.Serves.{HasFlushed, WritesOut}
 use Rattle.engine_sessions.proofs.SendLemmas.{hands_after}
 

@@ -3,8 +3,8 @@
 use Rattle.std.specs.Prelude.{◌≡◌, ℕ, ◌⊎◌, ◌==◌, Bool, if◌then◌else◌, List, Result, Ok, Err, IfOk, length}
 use Rattle.text_bytes.specs.Text.{Text}
 use Rattle.device_core.specs.Values.{EventValue}
-use Rattle.engine_ends.specs.Streams.{Streams}
-use Rattle.engine_ends.specs.Delivery.{RunOutcome}
+use Rattle.engine_sessions.specs.Streams.{Streams}
+use Rattle.engine_sessions.specs.Delivery.{RunOutcome}
 use Rattle.engine_sessions.specs.Turns.{say_something}
 use Rattle.engine_sessions.specs.Inputs.{AnswersInput, Devices}
 use Rattle.engine_sessions.specs.Serves.{AnswersAfter, StopsBefore}

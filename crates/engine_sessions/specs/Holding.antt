@@ -9,7 +9,7 @@ use Rattle.device_core.specs.declared.splitter.SplitFault.TheVariants.{TooLong, 
 use Rattle.device_core.specs.Values.{EventValue}
 use Rattle.device_core.specs.Faults.{block_gives}
 use Rattle.device_core.specs.declared.faults.BlockFaultKind.TheVariants.{TooLong as BlockTooLong}
-use Rattle.engine_ends.specs.Sinks.{SinkState, BreaksOff}
+use Rattle.engine_sessions.specs.Sinks.{SinkState, BreaksOff}
 use Rattle.engine_sessions.specs.Answers.{answers_to, well, counted}
 use Rattle.engine_sessions.specs.Sessions.{Held}
 use Rattle.engine_sessions.specs.Turns.{Situation, Turns, say_something}

@@ -6,11 +6,11 @@ use Rattle.device_core.specs.Runs.{complete_runs, rest_of}
 use Rattle.device_core.specs.RunBlocks.{most_bytes}
 use Rattle.device_core.specs.Values.{EventValue}
 use Rattle.device_core.specs.declared.faults.BlockFault.{BlockFault}
-use Rattle.engine_ends.specs.Reported.{followed_by, led_by, NoneLeft}
-use Rattle.engine_ends.specs.Counts.{Counts}
-use Rattle.engine_ends.specs.Sources.{SourceState}
-use Rattle.engine_ends.specs.Sinks.{SinkState}
-use Rattle.engine_ends.specs.Streams.{Streams}
+use Rattle.engine_sessions.specs.Reported.{followed_by, led_by, NoneLeft}
+use Rattle.engine_sessions.specs.Counts.{Counts}
+use Rattle.engine_sessions.specs.Sources.{SourceState}
+use Rattle.engine_sessions.specs.Sinks.{SinkState}
+use Rattle.engine_sessions.specs.Streams.{Streams}
 use Rattle.engine_sessions.specs.Answers.{answers_to, answers_of, well, number_after}
 use Rattle.engine_sessions.specs.Turns.{AreFirstOf, BreaksOffAfter, Sends, joined}
 use Rattle.engine_sessions.specs.declared.session.SessionFault.TheVariants.{Block, Memory, Ended}

@@ -3,7 +3,7 @@ use Rattle.std.specs.Prelude.{ℕ, Bool, ◌==◌, ◌&&◌, if◌then◌else◌
 use Rattle.text_bytes.specs.Text.{Text}
 use Rattle.device_core.specs.Values.{EventValue}
 use Rattle.device_core.specs.declared.faults.BlockFault.{BlockFault}
-use Rattle.engine_ends.specs.Delivery.{RunOutcome}
+use Rattle.engine_sessions.specs.Delivery.{RunOutcome}
 use Rattle.engine_sessions.specs.Answers.{Answers, answers_of, number_after}
 use Rattle.engine_sessions.specs.Turns.{joined}
 use Rattle.engine_sessions.specs.BlockFaults.{block_said}

@@ -6,9 +6,9 @@ use Rattle.device_core.specs.Runs.{runs}
 use Rattle.device_core.specs.Values.{EventValue, by_profile}
 use Rattle.device_core.specs.Faults.{block_gives}
 use Rattle.device_core.specs.declared.faults.BlockFault.{BlockFault}
-use Rattle.engine_ends.specs.Sinks.{BreaksOff, HandsOn, SinkState}
-use Rattle.engine_ends.specs.Streams.{Streams}
-use Rattle.engine_ends.specs.Delivery.{ReportsFailure, RunOutcome, out_of_memory, write_failed}
+use Rattle.engine_sessions.specs.Sinks.{BreaksOff, HandsOn, SinkState}
+use Rattle.engine_sessions.specs.Streams.{Streams}
+use Rattle.engine_sessions.specs.Delivery.{ReportsFailure, RunOutcome, out_of_memory, write_failed}
 use Rattle.engine_sessions.specs.Turns.{joined}
 use Rattle.engine_sessions.specs.Inputs.{AnswersInput, Devices, devices_of}
 use Rattle.engine_sessions.specs.Findings.{AnswersFinding}

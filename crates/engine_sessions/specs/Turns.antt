@@ -4,9 +4,9 @@ use Rattle.text_bytes.specs.Text.{Text}
 use Rattle.device_core.specs.Runs.{rest_of}
 use Rattle.device_core.specs.Values.{EventValue}
 use Rattle.device_core.specs.declared.faults.BlockFault.{BlockFault}
-use Rattle.engine_ends.specs.Reported.{NoneLeft}
-use Rattle.engine_ends.specs.Sources.{SourceState, Gives, SourceFails}
-use Rattle.engine_ends.specs.Sinks.{SinkState, BreaksOff, HandsOn}
+use Rattle.engine_sessions.specs.Reported.{NoneLeft}
+use Rattle.engine_sessions.specs.Sources.{SourceState, Gives, SourceFails}
+use Rattle.engine_sessions.specs.Sinks.{SinkState, BreaksOff, HandsOn}
 use Rattle.engine_sessions.specs.Answers.{Answers, answers_to, well, counted, number_after}
 use Rattle.engine_sessions.specs.Known.{known_blocks}
 use Rattle.engine_sessions.specs.Sessions.{Held, closed}

@@ -1,11 +1,12 @@
 //! What is said about a faulty block.
 ghost use Rattle.std.specs.Prelude.{◌≡◌, false, true};
 ghost use Rattle.engine_sessions.specs.BlockFaults.{advice_lines, block_line, block_said};
-ghost use Rattle.engine_ends.specs.Delivery.{ReportsFailure};
+ghost use Rattle.engine_sessions.specs.Delivery.{ReportsFailure};
 
 use crate::block_advice::{advice_on, wrong_in};
+use crate::delivery::report_in_pieces;
+use crate::device::Sink;
 use device_core::BlockFault;
-use engine_ends::{Sink, report_in_pieces};
 use itoa::Buffer;
 
 /// Reports the faulty block of this number, and returns the status for it, 1, or 3 if the error output failed.

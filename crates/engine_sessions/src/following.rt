@@ -7,10 +7,12 @@ ghost use Rattle.engine_sessions.specs.Serves.{AnswersAll, EndsWell, SaysFault, 
 
 use crate::answering::Answering;
 use crate::block_faults::report_block_fault;
+use crate::delivery::{report_failure, report_out_of_memory};
+use crate::device::{Sink, Source};
 use crate::inputs::answer_input;
 use crate::session::SessionFault;
 use crate::turning::TurnFault;
-use engine_ends::{Sink, Source, hand_on, report_failure, report_out_of_memory};
+use crate::writing::hand_on;
 use std::alloc::Global;
 use text_bytes::Profile;
 

@@ -5,10 +5,10 @@ ghost use Rattle.engine_sessions.specs.Findings.{AnswersFinding};
 ghost use Rattle.engine_sessions.specs.Tallies.{HearsInput};
 
 use crate::answering::Answering;
+use crate::device::{Sink, Source};
 use crate::listening::Listener;
 use crate::session::{Session, SessionFault};
 use crate::turning::{TurnFault, turn_told};
-use engine_ends::{Sink, Source};
 use std::alloc::Global;
 use text_bytes::Profile;
 

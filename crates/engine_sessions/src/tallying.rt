@@ -6,11 +6,13 @@ ghost use Rattle.engine_sessions.specs.Serves.{Serves};
 ghost use Rattle.engine_sessions.specs.Tallies.{events_of, SaysAll, SaysLast, with_said};
 
 use crate::answering::Answering;
+use crate::delivery::{report_failure, report_out_of_memory};
+use crate::device::{DeviceFault, Sink, Source};
 use crate::following::{Telling, conclude, end_well};
 use crate::hearing::Hearing;
 use crate::inputs::answer_heard;
 use crate::listening::Tally;
-use engine_ends::{DeviceFault, Sink, Source, hand_on, report_failure, report_out_of_memory};
+use crate::writing::hand_on;
 use std::alloc::Global;
 use text_bytes::Profile;
 

@@ -5,16 +5,17 @@
 ghost use Rattle.std.specs.Prelude.{◌≡◌, ◌≤◌, true, false, [], length, IfOk, IfErr, OnOk, OnErr};
 ghost use Rattle.std.specs.Option.{option_to_list};
 ghost use Rattle.device_core.specs.RunBlocks.{most_bytes};
-ghost use Rattle.engine_ends.specs.Sinks.{SinkState};
+ghost use Rattle.engine_sessions.specs.Sinks.{SinkState};
 ghost use Rattle.engine_sessions.specs.Sessions.{answer_of};
 ghost use Rattle.engine_sessions.specs.Turns.{due, HasEnded, say_something, Sends, SendsDue, SendsUntil, Turns, TurnFailsBy};
 ghost use Rattle.engine_sessions.specs.Holding.{IsGoing, BreaksOffAt, TurnsTold};
 ghost use Rattle.engine_sessions.specs.Tallies.{IsTold};
 
 use crate::answering::Answering;
+use crate::device::{DeviceFault, Sink, Source};
 use crate::listening::Listener;
 use crate::session::{Session, SessionFault};
-use engine_ends::{DeviceFault, Sink, Source, hand_on};
+use crate::writing::hand_on;
 use std::alloc::Global;
 use text_bytes::Bytes;
 

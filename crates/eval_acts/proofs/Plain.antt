@@ -6,9 +6,9 @@ use Rattle.std.specs.Option.{option_and_then}
 use Rattle.text_bytes.specs.declared.profile.Profile.{Profile}
 use Rattle.text_bytes.specs.declared.profile.Profile.TheVariants.{Manual, Udev}
 use Rattle.text_bytes.specs.Text.{Text}
-use Rattle.rule_templates.specs.Template.{Parts as Template}
-use Rattle.rule_templates.specs.declared.piece.Piece.{Piece}
-use Rattle.rule_templates.specs.declared.piece.Piece.TheVariants as piece
+use Rattle.rule_tokens.specs.Template.{Parts as Template}
+use Rattle.rule_tokens.specs.declared.piece.Piece.{Piece}
+use Rattle.rule_tokens.specs.declared.piece.Piece.TheVariants as piece
 use Rattle.eval_state.specs.declared.state.State.{State}
 use Rattle.eval_rendering.specs.Bounds.{most_bytes, most_command_bytes}
 use Rattle.eval_rendering.specs.Pieces.{has_long}

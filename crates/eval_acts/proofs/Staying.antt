@@ -9,11 +9,11 @@ use Rattle.text_core.specs.Fnmatch.{fnmatch_items}
 use Rattle.text_core.specs.declared.reading.Reading.TheVariants.{Exact}
 use Rattle.text_bytes.specs.Text.{Text}
 use Rattle.text_tables.specs.Pairs.{Pair, value_of}
-use Rattle.builtin_knowledge.specs.Knowledge.{Known}
-use Rattle.builtin_knowledge.specs.declared.root_files.RootFile.{RootFile}
-use Rattle.builtin_knowledge.specs.declared.root_files.RootFile.TheVariants.{Absent, Read}
+use Rattle.builtin_devices.specs.Knowledge.{Known}
+use Rattle.builtin_devices.specs.declared.root_files.RootFile.{RootFile}
+use Rattle.builtin_devices.specs.declared.root_files.RootFile.TheVariants.{Absent, Read}
 use Rattle.device_core.specs.Values.{AnswerValue, DeviceValue}
-use Rattle.rule_templates.specs.Template.{Parts}
+use Rattle.rule_tokens.specs.Template.{Parts}
 use Rattle.rule_types.specs.declared.part.ActKind.{ActKind}
 use Rattle.rule_types.specs.declared.part.ActKind.TheVariants as act_kind
 use Rattle.rule_types.specs.declared.part.Import.{Import}
@@ -29,7 +29,7 @@ use Rattle.eval_commands.specs.Builtins.{builtin_question}
 use Rattle.eval_commands.specs.Cmdline.{cmdline_value}
 use Rattle.eval_commands.specs.declared.builtin.Builtin.{Builtin}
 use Rattle.eval_commands.specs.declared.builtin.Builtin.TheVariants as builtin
-use Rattle.eval_matching.specs.Attributes.{is_not_read}
+use Rattle.eval_rendering.specs.Attributes.{is_not_read}
 use Rattle.eval_state.specs.Chains.{device_at}
 use Rattle.eval_state.specs.Places.{is_there, place_of}
 use Rattle.eval_state.specs.Named.{NamedValue, named, named_place}
@@ -43,8 +43,8 @@ use Rattle.eval_acts.specs.BuiltinRuns.{looked_up, most_set, needs_noted, outcom
 use Rattle.eval_acts.specs.RootImports.{file_properties, from_file, from_found}
 use Rattle.eval_acts.specs.Stored.{from_stored, is_stored_known, stored_value}
 use Rattle.eval_acts.specs.Imports.{builtin_run, from_answer_or_noted, from_line, from_parent, from_part, from_program, name_given, not_run, run_builtin, taken, words_for}
-use Rattle.eval_lookups.specs.LookUpNeeds.{lookup_needs}
-use Rattle.eval_lookups.specs.LookUps.{found}
+use Rattle.eval_commands.specs.LookUpNeeds.{lookup_needs}
+use Rattle.eval_commands.specs.LookUps.{found}
 use Rattle.eval_acts.specs.Printed.{printed_properties}
 use Rattle.eval_acts.specs.Questions.{answered_by_block, answered_or_noted, is_somewhere, result_of, tested, tested_at, tested_by, tested_by_udev, tested_here, with_result}
 

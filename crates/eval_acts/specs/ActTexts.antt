@@ -7,7 +7,7 @@ use Rattle.text_bytes.specs.declared.profile.Profile.{Profile}
 use Rattle.text_bytes.specs.declared.profile.Profile.TheVariants.{Manual, Udev}
 use Rattle.text_bytes.specs.Text.{Text}
 use Rattle.device_core.specs.Values.{DeviceValue}
-use Rattle.rule_templates.specs.Template.{Parts as Template}
+use Rattle.rule_tokens.specs.Template.{Parts as Template}
 use Rattle.eval_state.specs.declared.state.State.{State}
 use Rattle.eval_rendering.specs.Bounds.{most_command_bytes, most_path_bytes, sysfs_path, within}
 use Rattle.eval_rendering.specs.Rendering.{render, rendered_as_udev}

@@ -5,8 +5,8 @@ use Rattle.std.specs.List.{sum_by}
 use Rattle.text_bytes.specs.Text.{Text}
 use Rattle.text_tables.specs.Texts.{same_text}
 use Rattle.text_tables.specs.Pairs.{Pair, value_of}
-use Rattle.hwdb_lookup.specs.Query.{query}
-use Rattle.builtin_knowledge.specs.Knowledge.{Known}
+use Rattle.trie_nodes.specs.Query.{query}
+use Rattle.builtin_devices.specs.Knowledge.{Known}
 use Rattle.rule_types.specs.Builtins.{builtin_name}
 use Rattle.rule_types.specs.declared.builtins.Builtin.TheVariants.{InputId, NetId, NetSetupLink, PathId, UsbId}
 use Rattle.rule_types.specs.Rules.{Rule}

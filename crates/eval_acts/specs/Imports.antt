@@ -8,7 +8,7 @@ use Rattle.text_bytes.specs.Text.{Text}
 use Rattle.text_tables.specs.Pairs.{Pair, value_of, with_values}
 use Rattle.text_core.specs.Choices.{choice_fits}
 use Rattle.text_core.specs.declared.item.Item.{Item}
-use Rattle.builtin_knowledge.specs.Knowledge.{Known}
+use Rattle.builtin_devices.specs.Knowledge.{Known}
 use Rattle.device_core.specs.Values.{AnswerValue, DeviceValue, EventValue}
 use Rattle.rule_types.specs.Names.{import_name}
 use Rattle.rule_types.specs.declared.types.ImportType.{ImportType}
@@ -17,8 +17,8 @@ use Rattle.rule_types.specs.Rules.{Rule}
 use Rattle.eval_commands.specs.Builtins.{builtin, builtin_question}
 use Rattle.eval_commands.specs.Cmdline.{cmdline_value}
 use Rattle.eval_acts.specs.BuiltinRuns.{input_id_run, needs_noted, net_id_run, net_setup_link_run, path_id_run, usb_id_run}
-use Rattle.eval_lookups.specs.LookUpNeeds.{lookup_needs}
-use Rattle.eval_lookups.specs.LookUps.{found}
+use Rattle.eval_commands.specs.LookUpNeeds.{lookup_needs}
+use Rattle.eval_commands.specs.LookUps.{found}
 use Rattle.eval_acts.specs.Printed.{printed_properties}
 use Rattle.eval_commands.specs.declared.builtin.Builtin.{Builtin}
 use Rattle.eval_commands.specs.declared.hwdb.Hwdb.{Hwdb}

@@ -8,7 +8,7 @@ use Rattle.text_bytes.specs.Text.{Text}
 use Rattle.text_tables.specs.Pairs.{value_of}
 use Rattle.device_core.specs.Values.{AnswerValue, DeviceValue, EventValue}
 use Rattle.rule_types.specs.Rules.{Rule}
-use Rattle.text_links.specs.Safe.{attribute_marks, safe}
+use Rattle.text_bytes.specs.Safe.{attribute_marks, safe}
 use Rattle.eval_state.specs.Chains.{device_at}
 use Rattle.eval_state.specs.Files.{is_end}
 use Rattle.eval_state.specs.Named.{NamedValue, named, named_place}
@@ -17,7 +17,7 @@ use Rattle.eval_state.specs.Scenes.{noted}
 use Rattle.eval_state.specs.declared.note_kind.NoteKind.TheVariants.{TestNotMade, NoAnswer}
 use Rattle.eval_state.specs.declared.scene.Scene.{Scene}
 use Rattle.eval_rendering.specs.Behind.{linked_device}
-use Rattle.eval_matching.specs.Attributes.{is_not_read}
+use Rattle.eval_rendering.specs.Attributes.{is_not_read}
 
 -- the result, changed
 abbrev pub with_result : Text → Scene → Scene

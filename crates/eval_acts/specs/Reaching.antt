@@ -4,8 +4,8 @@ use Rattle.text_bytes.specs.Text.{Text}
 use Rattle.rule_types.specs.declared.roles.PlainKey.{PlainKey}
 use Rattle.rule_types.specs.declared.roles.PlainKey.TheVariants as plain
 use Rattle.rule_types.specs.Rules.{Rule}
-use Rattle.eval_matching.specs.Attributes.{is_not_read}
-use Rattle.eval_matching.specs.Subjects.{is_not_given}
+use Rattle.eval_rendering.specs.Attributes.{is_not_read}
+use Rattle.eval_rendering.specs.Subjects.{is_not_given}
 use Rattle.eval_state.specs.Scenes.{noted}
 use Rattle.eval_state.specs.declared.note_kind.NoteKind.TheVariants.{AttributeNotRead, ConstantNotGiven, SysctlNotRead}
 use Rattle.eval_state.specs.declared.scene.Scene.{Scene}

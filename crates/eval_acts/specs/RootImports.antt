@@ -4,9 +4,9 @@ use Rattle.std.specs.List.{slice_split}
 use Rattle.text_bytes.specs.Names.{nul}
 use Rattle.text_bytes.specs.Text.{Text}
 use Rattle.text_tables.specs.Pairs.{Pair}
-use Rattle.builtin_knowledge.specs.Knowledge.{Known}
-use Rattle.builtin_knowledge.specs.declared.root_files.RootFile.{RootFile}
-use Rattle.builtin_knowledge.specs.declared.root_files.RootFile.TheVariants.{Absent, Read}
+use Rattle.builtin_devices.specs.Knowledge.{Known}
+use Rattle.builtin_devices.specs.declared.root_files.RootFile.{RootFile}
+use Rattle.builtin_devices.specs.declared.root_files.RootFile.TheVariants.{Absent, Read}
 use Rattle.rule_types.specs.declared.types.ImportType.TheVariants.{File}
 use Rattle.rule_types.specs.Rules.{Rule}
 use Rattle.eval_rendering.specs.Pieces.{ends_line}

@@ -3,11 +3,11 @@ use Rattle.std.specs.Prelude.{if◌then◌else◌, List, [], ◌∷◌, ◌++◌
 use Rattle.std.specs.Option.{option_or}
 use Rattle.text_bytes.specs.Text.{Text}
 use Rattle.device_core.specs.Values.{EventValue}
-use Rattle.rule_templates.specs.Template.{Parts as Template}
-use Rattle.rule_templates.specs.declared.piece.Piece.{Piece}
-use Rattle.rule_templates.specs.declared.piece.Piece.TheVariants as piece
+use Rattle.rule_tokens.specs.Template.{Parts as Template}
+use Rattle.rule_tokens.specs.declared.piece.Piece.{Piece}
+use Rattle.rule_tokens.specs.declared.piece.Piece.TheVariants as piece
 use Rattle.rule_types.specs.Rules.{Rule}
-use Rattle.eval_matching.specs.Attributes.{is_not_read}
+use Rattle.eval_rendering.specs.Attributes.{is_not_read}
 use Rattle.eval_state.specs.Notes.{note_about}
 use Rattle.eval_state.specs.declared.note_kind.NoteKind.TheVariants.{AttributeNotRead}
 use Rattle.eval_state.specs.declared.notes.Note.{Note}

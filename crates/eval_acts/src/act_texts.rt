@@ -8,7 +8,7 @@ ghost use Rattle.eval_acts.specs.Inner.{only_text, plain_command, text_of};
 use device_core::Device;
 use eval_rendering::{MAX_COMMAND_BYTES, MAX_PATH_BYTES, Mode, Rendered, render, render_text};
 use eval_state::State;
-use rule_templates::{Piece, Template};
+use rule_tokens::{Piece, Template};
 use std::alloc::{AllocError, Global};
 use std::mem::replace;
 use text_bytes::{Bytes, Profile, begins_with};

@@ -1,6 +1,6 @@
 //! The builtins of udev that look at the devices of an event.
 ghost use Rattle.std.specs.Prelude.{◌≡◌, ◌-◌, nat_le, Some, None, if◌then◌else◌, IfOk, OnErr, OnOk, map, option_map};
-ghost use Rattle.hwdb_lookup.specs.Query.{shown};
+ghost use Rattle.trie_nodes.specs.Query.{shown};
 ghost use Rattle.rule_types.specs.Builtins.{builtin_name};
 ghost use Rattle.rule_types.specs.declared.builtins.Builtin.TheVariants.{NetId};
 ghost use Rattle.eval_state.specs.Properties.{properties_set};
@@ -9,8 +9,7 @@ ghost use Rattle.eval_acts.specs.BuiltinRuns.{net_setup_link_run, outcome_set};
 ghost use Rattle.eval_acts.specs.BuiltinRuns.{outcome_taken, path_id_run, properties_size, property_size, usb_id_run, with_maker};
 
 use crate::imports::set_as_udev;
-use builtin_devices::BuiltinOutcome;
-use builtin_knowledge::Knowledge;
+use builtin_devices::{BuiltinOutcome, Knowledge};
 use eval_state::{NoteKind, Scene, set_property};
 use rule_types::{Builtin, Rule};
 use std::alloc::{AllocError, Global};

@@ -4,9 +4,8 @@ ghost use Rattle.eval_acts.specs.Imports.{hwdb_run};
 
 use crate::builtin_runs::note_needs;
 use crate::imports::take;
-use builtin_knowledge::Knowledge;
-use eval_commands::Request;
-use eval_lookups::{look_up, lookup_needs};
+use builtin_devices::Knowledge;
+use eval_commands::{Request, look_up, lookup_needs};
 use eval_state::Scene;
 use rule_types::Rule;
 use std::alloc::{AllocError, Global};

@@ -2,7 +2,7 @@
 ghost use Rattle.std.specs.Prelude.{◌≡◌, IfOk, OnErr, OnOk, option_map};
 ghost use Rattle.std.specs.Option.{option_and_then};
 ghost use Rattle.text_tables.specs.Pairs.{value_of, with_values};
-ghost use Rattle.hwdb_lookup.specs.Query.{shown};
+ghost use Rattle.trie_nodes.specs.Query.{shown};
 ghost use Rattle.eval_state.specs.Chains.{device_at};
 ghost use Rattle.text_bytes.specs.declared.profile.Profile.TheVariants.{Udev};
 ghost use Rattle.eval_state.specs.Properties.{given_properties, properties_set};
@@ -17,7 +17,7 @@ ghost use Rattle.eval_acts.specs.Imports.{names_fitting, not_run, parent_propert
 use crate::builtin_runs::{run_input_id, run_net_id, run_net_setup_link, run_path_id, run_usb_id};
 use crate::hwdb_runs::run_hwdb;
 use crate::printed::set_printed;
-use builtin_knowledge::Knowledge;
+use builtin_devices::Knowledge;
 use device_core::{Device, Event, ProgramAnswer};
 use eval_commands::{Builtin, Request, builtin_question, cmdline_value, other_name, request_of};
 use eval_state::{NoteKind, Scene, set_property};

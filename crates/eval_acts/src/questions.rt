@@ -6,8 +6,7 @@ ghost use Rattle.eval_state.specs.Named.{named};
 ghost use Rattle.eval_state.specs.Places.{is_there, place_of};
 
 use device_core::{Device, Event, ProgramAnswer};
-use eval_matching::is_not_read;
-use eval_rendering::{attribute_safe, linked_device};
+use eval_rendering::{attribute_safe, is_not_read, linked_device};
 use eval_state::{Chain, Named, NoteKind, Place, Scene};
 use rule_types::Rule;
 use std::alloc::{AllocError, Global};

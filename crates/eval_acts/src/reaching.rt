@@ -2,7 +2,7 @@
 ghost use Rattle.std.specs.Prelude.{◌≡◌, OnOk, OnErr};
 ghost use Rattle.eval_acts.specs.Reaching.{attribute_reached, constant_reached, match_reached};
 
-use eval_matching::{is_not_given, is_not_read};
+use eval_rendering::{is_not_given, is_not_read};
 use eval_state::{NoteKind, Scene};
 use rule_types::{PlainKey, PlainMatch, Rule};
 use std::alloc::{AllocError, Global};

@@ -1,14 +1,14 @@
 //! IMPORT{file}, by what was found at its path in the root before the first event.
 ghost use Rattle.std.specs.Prelude.{◌≡◌, IfOk, OnErr, OnOk, Some, map, option_copied};
 ghost use Rattle.std.specs.List.{slice_split};
-ghost use Rattle.builtin_knowledge.specs.declared.root_files.RootFile.TheVariants.{Read};
+ghost use Rattle.builtin_devices.specs.declared.root_files.RootFile.TheVariants.{Read};
 ghost use Rattle.eval_state.specs.Properties.{properties_set};
 ghost use Rattle.eval_acts.specs.RootImports.{ends_file_line, file_properties, from_file, from_found};
 
 use crate::builtin_runs::MAX_SET;
 use crate::imports::not_run;
 use crate::printed::set_lines;
-use builtin_knowledge::{Knowledge, RootFile};
+use builtin_devices::{Knowledge, RootFile};
 use eval_rendering::ends_line;
 use eval_state::Scene;
 use rule_types::{ImportType, Rule};

@@ -2,9 +2,9 @@
 ghost use Rattle.std.specs.Prelude.{◌≡◌, ◌++◌, OnErr, OnOk, option_map};
 ghost use Rattle.eval_acts.specs.Unread.{first_unread, unread_in, unread_noted, unread_notes};
 
-use eval_matching::is_not_read;
+use eval_rendering::is_not_read;
 use eval_state::{Chain, NoteKind, Scene};
-use rule_templates::{Piece, Template};
+use rule_tokens::{Piece, Template};
 use rule_types::Rule;
 use std::alloc::{AllocError, Global};
 

@@ -3,7 +3,7 @@ use Rattle.std.proofs.Common.{◌≡◌, ℕ, zero, suc, Bool, true, false, cond
 use Rattle.text_bytes.specs.declared.profile.Profile.{Profile}
 use Rattle.text_bytes.specs.declared.profile.Profile.TheVariants.{Manual, Udev}
 use Rattle.text_bytes.specs.Text.{Text}
-use Rattle.rule_templates.specs.Template.{Parts as Template}
+use Rattle.rule_tokens.specs.Template.{Parts as Template}
 use Rattle.rule_types.specs.Topics.{mode_of as mode_in}
 use Rattle.rule_types.specs.Written.{attribute_of_target, key_of_target}
 use Rattle.rule_types.specs.declared.keys.Key.TheVariants as key

@@ -10,7 +10,7 @@ use Rattle.rule_types.specs.declared.roles.AssignOperator.TheVariants.{Add}
 use Rattle.rule_types.specs.Rules.{Rule}
 use Rattle.eval_state.specs.Texts.{or_empty}
 use Rattle.eval_rendering.specs.Bounds.{bounded, short}
-use Rattle.text_links.specs.Safe.{link_marks, safe}
+use Rattle.text_bytes.specs.Safe.{link_marks, safe}
 use Rattle.eval_state.specs.Notes.{word_of_key}
 use Rattle.eval_state.specs.Properties.{property_set}
 use Rattle.eval_state.specs.Scenes.{noted, with_env}

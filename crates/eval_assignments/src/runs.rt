@@ -10,7 +10,7 @@ use crate::finals::finish;
 use crate::links::words;
 use eval_rendering::{MAX_COMMAND_BYTES, Mode, Rendered, render};
 use eval_state::{FinalKey, MadeRun, NoteKind, Run, Scene};
-use rule_templates::Template;
+use rule_tokens::Template;
 use rule_types::{AssignOperator, Key, Rule, RunType};
 use std::alloc::{AllocError, Global};
 use text_bytes::Bytes;

@@ -16,7 +16,7 @@ use crate::runs::{keep_run, render_run};
 use device_core::DeviceNumber;
 use eval_rendering::{Rendered, render};
 use eval_state::{NoteKind, Scene};
-use rule_templates::Template;
+use rule_tokens::Template;
 use rule_types::{AssignOperator, Assignment, Change, Rule, RunType, Target};
 use std::alloc::{AllocError, Global};
 use text_bytes::{Bytes, Profile};

@@ -1,3 +1,7 @@
+pub mod LookUps
+pub mod LookUpNeeds
+pub mod UsbModalias
+pub mod Inner
 pub mod Builtins
 pub mod Words
 pub mod Hwdb

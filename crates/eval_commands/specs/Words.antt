@@ -3,7 +3,7 @@ use Rattle.std.specs.Prelude.{ℕ, Bool, ◌==◌, ◌||◌, if◌then◌else◌
 use Rattle.text_bytes.specs.Names.{space, single_quote, double_quote}
 use Rattle.text_bytes.specs.declared.profile.Profile.{Profile}
 use Rattle.text_bytes.specs.declared.profile.Profile.TheVariants.{Manual, Udev}
-use Rattle.rule_templates.specs.Integers.{is_separator}
+use Rattle.rule_tokens.specs.Integers.{is_separator}
 use Rattle.text_bytes.specs.Text.{Text}
 use Rattle.eval_commands.specs.declared.words.Place.{Place}
 use Rattle.eval_commands.specs.declared.words.Place.TheVariants.{Between, InWord, Quoted}

@@ -5,7 +5,7 @@ ghost use Rattle.std.specs.Prelude.{◌≡◌, IfOk, OnOk, option_map};
 ghost use Rattle.eval_commands.specs.Words.{added, begun, closed, command_words, ended, finished_words, is_quote};
 ghost use Rattle.eval_commands.specs.Words.{quoted, separates, unread_command, took, udev_words};
 
-use rule_templates::is_separator;
+use rule_tokens::is_separator;
 use std::alloc::{AllocError, Global};
 use std::marker::Model;
 use text_bytes::{Bytes, Profile};

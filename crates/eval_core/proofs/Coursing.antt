@@ -13,7 +13,7 @@ use Rattle.text_bytes.specs.declared.profile.Profile.TheVariants.{Manual, Udev}
 use Rattle.text_bytes.specs.Text.{Text}
 use Rattle.text_tables.specs.Texts.{same_text}
 use Rattle.text_tables.specs.Pairs.{value_of}
-use Rattle.builtin_knowledge.specs.Knowledge.{Known}
+use Rattle.builtin_devices.specs.Knowledge.{Known}
 use Rattle.rule_types.specs.declared.roles.MatchOperator.{MatchOperator}
 use Rattle.rule_types.specs.declared.roles.MatchOperator.TheVariants.{Equal, NotEqual}
 use Rattle.rule_types.specs.declared.roles.PlainKey.{PlainKey}
@@ -31,10 +31,10 @@ use Rattle.device_core.specs.Values.{DeviceValue, EventValue, chain}
 use Rattle.eval_state.specs.Chains.{device_at}
 use Rattle.eval_state.specs.Texts.{or_empty}
 use Rattle.eval_state.specs.declared.state.State.{State}
-use Rattle.eval_matching.specs.Attributes.{attribute_by, value_by}
-use Rattle.eval_matching.specs.Holding.{agrees, attribute, holds, one}
-use Rattle.eval_matching.specs.Subjects.{found_place, holds_at, plain_subject, tried, up_subject}
-use Rattle.eval_matching.proofs.Finding.{none_found}
+use Rattle.eval_rendering.specs.Attributes.{attribute_by, value_by}
+use Rattle.eval_rendering.specs.Holding.{agrees, attribute, holds, one}
+use Rattle.eval_rendering.specs.Subjects.{found_place, holds_at, plain_subject, tried, up_subject}
+use Rattle.eval_rendering.proofs.Finding.{none_found}
 use Rattle.eval_state.specs.declared.scene.Scene.{Scene}
 use Rattle.eval_acts.specs.Acts.{act_step}
 use Rattle.eval_acts.specs.Reaching.{match_reached}

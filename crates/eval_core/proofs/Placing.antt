@@ -2,9 +2,9 @@
 use Rattle.std.proofs.Common.{◌≡◌, ℕ, zero, suc, ◌+◌, ◌<◌, ◌≤◌, not, List, [], ◌∷◌, length, get_or, drop, Option, Some, None, refl, ap, sym, ◌∙◌, arith}
 use Rattle.std.proofs.lemmas.List.Sums.{prefix_len-le-length}
 use Rattle.text_bytes.specs.Text.{Text}
-use Rattle.rule_jumps.specs.Jumps.{is_named}
+use Rattle.rule_types.specs.Jumps.{is_named}
 use Rattle.rule_types.specs.Rules.{Rule}
-use Rattle.rule_jumps.specs.Passed.{over, skipped}
+use Rattle.rule_types.specs.Passed.{over, skipped}
 
 pub length-skipped : (rules : List Rule) → length (skipped rules) ≡ length rules
 length-skipped [] = refl

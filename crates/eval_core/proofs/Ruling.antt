@@ -14,7 +14,7 @@ use Rattle.text_tables.specs.Pairs.{value_of}
 use Rattle.text_core.specs.Choices.{choice_fits}
 use Rattle.text_core.specs.declared.item.Item.{Item}
 use Rattle.text_core.specs.declared.item.Item.TheVariants as item
-use Rattle.builtin_knowledge.specs.Knowledge.{Known}
+use Rattle.builtin_devices.specs.Knowledge.{Known}
 use Rattle.rule_types.specs.declared.roles.MatchOperator.{MatchOperator}
 use Rattle.rule_types.specs.declared.roles.MatchOperator.TheVariants.{Equal, NotEqual}
 use Rattle.rule_types.specs.declared.roles.PlainKey.{PlainKey}
@@ -31,10 +31,10 @@ use Rattle.eval_state.specs.Texts.{or_empty}
 use Rattle.text_bytes.specs.Texts.{trimmed}
 use Rattle.eval_state.specs.Scenes.{noted}
 use Rattle.eval_state.specs.declared.note_kind.NoteKind.TheVariants.{AttributeNotRead}
-use Rattle.eval_matching.specs.Attributes.{attribute_by, is_not_read, is_not_read_by, value_by}
-use Rattle.eval_matching.specs.Holding.{agrees, attribute, ends_in_whitespace, holds, is_whitespace_item, one}
-use Rattle.eval_matching.specs.Subjects.{plain_subject, subsystem_by}
-use Rattle.eval_matching.specs.Udev.{passes}
+use Rattle.eval_rendering.specs.Attributes.{attribute_by, is_not_read, is_not_read_by, value_by}
+use Rattle.eval_rendering.specs.Holding.{agrees, attribute, ends_in_whitespace, holds, is_whitespace_item, one}
+use Rattle.eval_rendering.specs.Subjects.{plain_subject, subsystem_by}
+use Rattle.eval_rendering.specs.Udev.{passes}
 use Rattle.eval_state.specs.declared.scene.Scene.{Scene}
 use Rattle.eval_acts.specs.Acts.{act_step}
 use Rattle.eval_acts.specs.Reaching.{match_reached}

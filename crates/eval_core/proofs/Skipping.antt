@@ -4,10 +4,10 @@ use Rattle.std.specs.Cmp.Lexicographic.{bytes_decides}
 use Rattle.std.proofs.lemmas.List.{drop_more, drop_all, drop-drop}
 use Rattle.text_bytes.specs.Text.{Text}
 use Rattle.text_tables.specs.Texts.{same_text}
-use Rattle.builtin_knowledge.specs.Knowledge.{Known}
-use Rattle.rule_jumps.specs.Jumps.{is_named}
+use Rattle.builtin_devices.specs.Knowledge.{Known}
+use Rattle.rule_types.specs.Jumps.{is_named}
 use Rattle.rule_types.specs.Rules.{Rule}
-use Rattle.rule_jumps.specs.Passed.{over, skipped}
+use Rattle.rule_types.specs.Passed.{over, skipped}
 use Rattle.eval_core.proofs.Placing.{at_place}
 use Rattle.eval_state.specs.declared.scene.Scene.{Scene}
 use Rattle.eval_rules.specs.Jumps.{is_label, run, sought_after}

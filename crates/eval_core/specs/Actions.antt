@@ -8,7 +8,7 @@ use Rattle.rule_types.specs.declared.roles.PlainKey.TheVariants as plain
 use Rattle.rule_types.specs.declared.part.Comparison.{Comparison}
 use Rattle.rule_types.specs.declared.part.PlainMatch.{PlainMatch}
 use Rattle.rule_types.specs.Rules.{Rule}
-use Rattle.eval_matching.specs.Holding.{holds, one}
+use Rattle.eval_rendering.specs.Holding.{holds, one}
 use Rattle.eval_core.specs.declared.actions.ByAction.{ByAction}
 
 -- the actions that the kernel reports

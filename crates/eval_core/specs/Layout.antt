@@ -2,7 +2,7 @@
 use Rattle.std.specs.Prelude.{◌≡◌, ℕ, List, map}
 use Rattle.text_bytes.specs.Text.{Text}
 use Rattle.rule_types.specs.Rules.{Rule}
-use Rattle.rule_jumps.specs.Passed.{skipped}
+use Rattle.rule_types.specs.Passed.{skipped}
 use Rattle.eval_core.specs.Courses.{course_of}
 use Rattle.eval_core.specs.declared.courses.Course.{Course}
 

@@ -4,10 +4,10 @@
 //! for each of them it is known in advance whether a match of the action holds.
 ghost use Rattle.std.specs.Prelude.{◌≡◌, position};
 ghost use Rattle.text_tables.specs.Texts.{same_text};
-ghost use Rattle.eval_matching.specs.Holding.{holds, one};
+ghost use Rattle.eval_rendering.specs.Holding.{holds, one};
 ghost use Rattle.eval_core.specs.Actions.{action_place, actions, by_action, has_no_more, held_for, is_guard, with_action};
 
-use eval_matching::agrees;
+use eval_rendering::agrees;
 use rule_types::{Comparison, PlainKey, PlainMatch, Rule};
 
 /// The actions that the kernel reports.
@@ -39,7 +39,7 @@ pub(crate) fn action_place(action: &[u8]) -> Option<usize>
 }
 
 /// Whether a match of the action holds for one action.
-#[tactic(auto, unfolding(eval_matching::specs::Holding::holds))]
+#[tactic(auto, unfolding(eval_rendering::specs::Holding::holds))]
 fn holds_for(wanted: &Comparison, action: &[u8]) -> bool
     ensures { result ≡ holds (one action.now) wanted.now }
 {

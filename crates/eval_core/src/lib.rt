@@ -25,7 +25,7 @@ mod running;
 mod seen;
 mod sketches;
 
-pub use builtin_knowledge::Knowledge;
+pub use builtin_devices::Knowledge;
 pub use device_core::Event;
 pub use eval_rendering::{Mode, Rendered, render};
 pub use eval_rules::{Command, Commands, Outcome, apply, evaluate_plain, finish};

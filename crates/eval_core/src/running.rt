@@ -1,6 +1,6 @@
 //! Rules one after another, by their numbers.
 ghost use Rattle.std.specs.Prelude.{◌≡◌, ◌+◌, ◌<◌, ◌≤◌, None, IfOk, OnOk, length, get_or, if◌then◌else◌};
-ghost use Rattle.rule_jumps.specs.Passed.{skipped};
+ghost use Rattle.rule_types.specs.Passed.{skipped};
 ghost use Rattle.eval_rules.specs.Jumps.{run};
 ghost use Rattle.eval_rules.specs.Steps.{apply};
 ghost use Rattle.eval_core.specs.Courses.{as_predicted};
@@ -10,7 +10,7 @@ use crate::actions::action_place;
 use crate::courses::{Course, Fate, predicted_by};
 use crate::marks::marks;
 use crate::seen::seen;
-use builtin_knowledge::Knowledge;
+use builtin_devices::Knowledge;
 use eval_rules::apply;
 use eval_state::Scene;
 use rule_types::Rule;

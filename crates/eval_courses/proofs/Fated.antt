@@ -1,7 +1,7 @@
 -- A watcher that notes where each rule ends knows what became of all of them.
 use Rattle.std.proofs.Common.{◌≡◌, ℕ, ◌+◌, Bool, true, false, cond, List, [], ◌∷◌, ◌++◌, length, length-append, append_assoc, append-nil, Option, None, refl, ap, sym, ◌∙◌}
 use Rattle.text_bytes.specs.Text.{Text}
-use Rattle.builtin_knowledge.specs.Knowledge.{Known}
+use Rattle.builtin_devices.specs.Knowledge.{Known}
 use Rattle.rule_types.specs.Rules.{Rule}
 use Rattle.eval_state.specs.declared.scene.Scene.{Scene}
 use Rattle.eval_rules.specs.Idle.{is_idle}

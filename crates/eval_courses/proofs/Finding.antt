@@ -5,9 +5,9 @@ use Rattle.text_bytes.specs.Text.{Text}
 use Rattle.device_core.specs.Values.{chain}
 use Rattle.rule_types.specs.declared.part.UpMatch.{UpMatch}
 use Rattle.eval_state.specs.declared.state.State.{State}
-use Rattle.eval_matching.specs.Laws.{IsFirstToMeet, NoneMeets}
-use Rattle.eval_matching.specs.Subjects.{found_place, holds_at}
-use Rattle.eval_matching.proofs.Finding.{found_first, none_found}
+use Rattle.eval_rendering.specs.Laws.{IsFirstToMeet, NoneMeets}
+use Rattle.eval_rendering.specs.Subjects.{found_place, holds_at}
+use Rattle.eval_rendering.proofs.Finding.{found_first, none_found}
 use Rattle.eval_courses.specs.Laws.{last_of}
 use Rattle.eval_courses.specs.Upward.{falling, found_report, meets_all, name_at, partial_report, partly, search_reports, unmet, up_report}
 use Rattle.eval_courses.proofs.Ending.{after_all}

@@ -1,7 +1,7 @@
 -- What a watcher gathers of a rule: what it holds grows by what is told of each key, and of the end.
 use Rattle.std.proofs.Common.{◌≡◌, Bool, true, false, cond, List, [], ◌∷◌, ◌++◌, append_assoc, append-nil, ap, sym, ◌∙◌}
 use Rattle.text_bytes.specs.Text.{Text}
-use Rattle.builtin_knowledge.specs.Knowledge.{Known}
+use Rattle.builtin_devices.specs.Knowledge.{Known}
 use Rattle.rule_types.specs.declared.part.Act.{Act}
 use Rattle.rule_types.specs.declared.part.Comparison.{Comparison}
 use Rattle.rule_types.specs.declared.part.PlainMatch.{PlainMatch}

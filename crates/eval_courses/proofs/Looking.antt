@@ -3,7 +3,7 @@ use Rattle.std.proofs.Common.{◌≡◌, List, refl}
 use Rattle.text_bytes.specs.declared.profile.Profile.{Profile}
 use Rattle.text_bytes.specs.declared.profile.Profile.TheVariants as profile
 use Rattle.text_bytes.specs.Text.{Text}
-use Rattle.eval_matching.specs.Subjects.{members_by, subsystem_by}
+use Rattle.eval_rendering.specs.Subjects.{members_by, subsystem_by}
 use Rattle.eval_effects.specs.Shown.{shown}
 use Rattle.eval_courses.specs.Looks.{looked, members_report}
 

@@ -1,7 +1,7 @@
 -- What is reported for an act, by what was known before it and by what came of it.
 use Rattle.std.proofs.Common.{◌≡◌, Bool, List, ◌++◌, ap}
 use Rattle.text_tables.specs.Pairs.{Pair}
-use Rattle.builtin_knowledge.specs.Knowledge.{Known}
+use Rattle.builtin_devices.specs.Knowledge.{Known}
 use Rattle.rule_types.specs.declared.part.Act.{Act}
 use Rattle.rule_types.specs.Rules.{Rule}
 use Rattle.eval_state.specs.declared.scene.Scene.{Scene}

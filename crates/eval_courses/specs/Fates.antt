@@ -1,7 +1,7 @@
 -- What became of each rule at an event: whether it was reached, and which of its keys stopped it.
 use Rattle.std.specs.Prelude.{if◌then◌else◌, List, [], ◌∷◌, ◌++◌, map, length, Option, None}
 use Rattle.text_bytes.specs.Text.{Text}
-use Rattle.builtin_knowledge.specs.Knowledge.{Known}
+use Rattle.builtin_devices.specs.Knowledge.{Known}
 use Rattle.rule_types.specs.Rules.{Rule}
 use Rattle.rule_types.specs.declared.part.UpMatch.{UpMatch}
 use Rattle.device_core.specs.Values.{EventValue}

@@ -5,9 +5,9 @@ use Rattle.text_bytes.specs.Text.{Text}
 use Rattle.text_tables.specs.Pairs.{Pair}
 use Rattle.rule_types.specs.declared.part.Act.{Act}
 use Rattle.eval_state.specs.declared.scene.Scene.{Scene}
-use Rattle.eval_matching.specs.Holding.{Subject, one, constant, never, unread}
-use Rattle.eval_matching.specs.Borrowed.{borrowed_subject}
-use Rattle.eval_matching.specs.Subjects.{members_by, subsystem_by}
+use Rattle.eval_rendering.specs.Holding.{Subject, one, constant, never, unread}
+use Rattle.eval_rendering.specs.Borrowed.{borrowed_subject}
+use Rattle.eval_rendering.specs.Subjects.{members_by, subsystem_by}
 use Rattle.eval_rules.specs.Idle.{is_idle}
 use Rattle.eval_rules.specs.Steps.{Went}
 use Rattle.eval_rules.specs.Watched.{Happening, acted, assigned, comparing, entered, left, meeting, passed, searching, skipped, stopped}

@@ -5,9 +5,9 @@ use Rattle.text_bytes.specs.Text.{Text}
 use Rattle.rule_types.specs.declared.part.Comparison.{Comparison}
 use Rattle.rule_types.specs.declared.part.PlainMatch.{PlainMatch}
 use Rattle.eval_state.specs.declared.state.State.{State}
-use Rattle.eval_matching.specs.Holding.{Subject, one, attribute, constant, members, never, unread, udev_attribute}
-use Rattle.eval_matching.specs.Holding.{udev_members, udev_subsystem, udev_unread, holds}
-use Rattle.eval_matching.specs.Subjects.{plain_subject}
+use Rattle.eval_rendering.specs.Holding.{Subject, one, attribute, constant, members, never, unread, udev_attribute}
+use Rattle.eval_rendering.specs.Holding.{udev_members, udev_subsystem, udev_unread, holds}
+use Rattle.eval_rendering.specs.Subjects.{plain_subject}
 use Rattle.eval_effects.specs.Shown.{shown}
 use Rattle.eval_courses.specs.Keys.{plain_key, result_key}
 

@@ -8,7 +8,7 @@ use Rattle.text_bytes.specs.declared.profile.Profile.TheVariants.{Udev}
 use Rattle.text_bytes.specs.Text.{Text}
 use Rattle.text_tables.specs.Texts.{with_texts}
 use Rattle.text_tables.specs.Pairs.{value_of}
-use Rattle.builtin_knowledge.specs.Knowledge.{Known}
+use Rattle.builtin_devices.specs.Knowledge.{Known}
 use Rattle.rule_types.specs.Rules.{Rule}
 use Rattle.rule_types.specs.declared.part.Act.{Act}
 use Rattle.rule_types.specs.declared.part.ActKind.{ActKind}

@@ -9,8 +9,8 @@ use Rattle.rule_types.specs.declared.part.UpMatch.{UpMatch}
 use Rattle.eval_state.specs.Chains.{device_at, kernel_of}
 use Rattle.eval_state.specs.Texts.{or_empty}
 use Rattle.eval_state.specs.declared.state.State.{State}
-use Rattle.eval_matching.specs.Holding.{Subject, attribute, udev_attribute}
-use Rattle.eval_matching.specs.Subjects.{found_place, holds_at, up_subject}
+use Rattle.eval_rendering.specs.Holding.{Subject, attribute, udev_attribute}
+use Rattle.eval_rendering.specs.Subjects.{found_place, holds_at, up_subject}
 use Rattle.eval_effects.specs.Shown.{joined, shown}
 use Rattle.eval_courses.specs.Keys.{up_key}
 use Rattle.eval_courses.specs.Looks.{looked}

@@ -15,7 +15,7 @@ use crate::imports::{import_asked, import_report_before};
 use crate::keys::Written;
 use crate::plain::push_met;
 use crate::properties::push_taken;
-use builtin_knowledge::Knowledge;
+use builtin_devices::Knowledge;
 use eval_acts::{act_step, program_text, test_text};
 use eval_effects::push_shown;
 use eval_rendering::Rendered;

@@ -3,7 +3,7 @@ ghost use Rattle.std.specs.Prelude.{◌≡◌, IfOk};
 ghost use Rattle.eval_courses.specs.Questions.{questions};
 
 use crate::asks::ask;
-use builtin_knowledge::Knowledge;
+use builtin_devices::Knowledge;
 use device_core::Event;
 use eval_acts::act_step;
 use eval_assignments::set_all;

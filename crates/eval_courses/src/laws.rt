@@ -1,12 +1,12 @@
 //! What holds for courses, whatever the rule. Each function here is empty: its contract is the law.
 ghost use Rattle.std.specs.Prelude.{◌≡◌, ◌↔◌, ◌∷◌, ◌++◌, Bool, ℕ, List, Option, Some, codes, length, true, false};
 ghost use Rattle.text_bytes.specs.Text.{Text};
-ghost use Rattle.builtin_knowledge.specs.Knowledge.{Known};
+ghost use Rattle.builtin_devices.specs.Knowledge.{Known};
 ghost use Rattle.rule_types.specs.declared.part.UpMatch.{UpMatch};
 ghost use Rattle.rule_types.specs.Rules as rules;
 ghost use Rattle.eval_state.specs.declared.scene.Scene.{Scene};
 ghost use Rattle.eval_state.specs.declared.state.State.{State};
-ghost use Rattle.eval_matching.specs.Laws.{IsFirstToMeet, NoneMeets};
+ghost use Rattle.eval_rendering.specs.Laws.{IsFirstToMeet, NoneMeets};
 ghost use Rattle.eval_rules.specs.Idle.{is_idle};
 ghost use Rattle.eval_rules.specs.Steps.{apply, before_sets};
 ghost use Rattle.eval_effects.specs.Since as finals;

@@ -7,7 +7,7 @@ use crate::plain::match_report;
 use crate::skipped::skipped_text;
 use crate::subjects::{Subject, plain_subject};
 use crate::upward::report_search;
-use eval_matching::{plain_holds, result_holds};
+use eval_rendering::{plain_holds, result_holds};
 use eval_rules::{Moment, is_idle};
 use eval_state::Scene;
 use std::alloc::{AllocError, Global};

@@ -4,7 +4,7 @@ ghost use Rattle.eval_courses.specs.Fates.{fates};
 ghost use Rattle.eval_courses.specs.Inner.{with_fate, with_key};
 
 use crate::fate::Fate;
-use builtin_knowledge::Knowledge;
+use builtin_devices::Knowledge;
 use device_core::Event;
 use eval_acts::act_step;
 use eval_assignments::set_all;

@@ -2,13 +2,13 @@
 ghost use Rattle.std.specs.Prelude.{◌≡◌, ◌++◌, OnOk, map, option_map};
 ghost use Rattle.eval_state.specs.Chains.{device_at, kernel_of};
 ghost use Rattle.eval_state.specs.Texts.{or_empty};
-ghost use Rattle.eval_matching.specs.Subjects.{members_by, named_constant, plain_subject, tags_at, up_subject};
+ghost use Rattle.eval_rendering.specs.Subjects.{members_by, named_constant, plain_subject, tags_at, up_subject};
 ghost use Rattle.eval_courses.specs.Inner.{subject_of};
 ghost use Rattle.eval_courses.specs.Looks.{looked, members_report, value_report};
 ghost use Rattle.eval_courses.specs.Upward.{is_absent};
 
 use eval_effects::push_shown;
-use eval_matching::{
+use eval_rendering::{
     Attribute, attribute_at, driver_at, event_attribute, is_known_constant, subsystem_at,
 };
 use eval_state::State;

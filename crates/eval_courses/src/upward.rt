@@ -2,14 +2,14 @@
 ghost use Rattle.std.specs.Prelude.{◌≡◌, ◌++◌, IfOk, OnOk, length, map};
 ghost use Rattle.std.specs.List.{list_any};
 ghost use Rattle.device_core.specs.Values.{chain};
-ghost use Rattle.eval_matching.specs.Subjects.{found_place, holds_at, up_subject};
+ghost use Rattle.eval_rendering.specs.Subjects.{found_place, holds_at, up_subject};
 ghost use Rattle.eval_courses.specs.Upward.{device_report, found_report, hits, meets_all, met_at, partial_report};
 ghost use Rattle.eval_courses.specs.Upward.{partly, places, search_reports, up_report};
 
 use crate::keys::Written;
 use crate::subjects::{is_absent, kernel_at, push_looked, up_subject};
 use eval_effects::{push_joined, push_shown};
-use eval_matching::{found_place, holds_at};
+use eval_rendering::{found_place, holds_at};
 use eval_state::State;
 use itoa::Buffer;
 use rule_types::UpMatch;

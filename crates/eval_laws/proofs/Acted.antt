@@ -15,10 +15,10 @@ use Rattle.text_core.specs.Choices.{choice_fits}
 use Rattle.text_core.specs.Fnmatch.{fnmatch_items}
 use Rattle.text_core.specs.declared.item.Item.{Item}
 use Rattle.text_core.specs.declared.reading.Reading.TheVariants.{Exact}
-use Rattle.builtin_knowledge.specs.Knowledge.{Known}
-use Rattle.builtin_knowledge.specs.declared.root_files.RootFile.{RootFile}
-use Rattle.builtin_knowledge.specs.declared.root_files.RootFile.TheVariants.{Absent, Read}
-use Rattle.rule_templates.specs.Template.{Parts as Template}
+use Rattle.builtin_devices.specs.Knowledge.{Known}
+use Rattle.builtin_devices.specs.declared.root_files.RootFile.{RootFile}
+use Rattle.builtin_devices.specs.declared.root_files.RootFile.TheVariants.{Absent, Read}
+use Rattle.rule_tokens.specs.Template.{Parts as Template}
 use Rattle.rule_types.specs.Names.{import_name}
 use Rattle.rule_types.specs.WrittenParts.{attribute_of_act_kind, key_of_act_kind}
 use Rattle.rule_types.specs.declared.part.Act.{Act}
@@ -40,7 +40,7 @@ use Rattle.eval_state.specs.Scenes.{noted, with_env}
 use Rattle.eval_state.specs.declared.note_kind.NoteKind.{NoteKind}
 use Rattle.eval_state.specs.declared.note_kind.NoteKind.TheVariants.{AttributeNotRead, BadHwdbArguments, BuiltinNeeds, BuiltinNotRun, ImportNotRun, NoAnswer, TestNotMade, TextTooLong}
 use Rattle.eval_state.specs.declared.scene.Scene.{Scene}
-use Rattle.eval_matching.specs.Attributes.{is_not_read}
+use Rattle.eval_rendering.specs.Attributes.{is_not_read}
 use Rattle.rule_types.specs.Builtins.{builtin_name}
 use Rattle.rule_types.specs.declared.builtins.Builtin.TheVariants.{InputId, NetId, NetSetupLink, PathId, UsbId}
 use Rattle.builtin_devices.specs.Outcomes.{OutcomeValue}
@@ -50,7 +50,7 @@ use Rattle.eval_commands.specs.Cmdline.{cmdline_value}
 use Rattle.eval_commands.specs.Hwdb.{hwdb_of}
 use Rattle.eval_commands.specs.Words.{command_words}
 use Rattle.eval_commands.specs.declared.hwdb.Hwdb.{Hwdb}
-use Rattle.eval_lookups.specs.LookUps.{found}
+use Rattle.eval_commands.specs.LookUps.{found}
 use Rattle.eval_commands.specs.declared.builtin.Builtin.{Builtin}
 use Rattle.eval_commands.specs.declared.builtin.Builtin.TheVariants as asked_for
 use Rattle.eval_state.specs.Places.{is_there, place_of}
@@ -61,7 +61,7 @@ use Rattle.eval_acts.specs.Acts.{act_step, command_reached, from_parent_by, impo
 use Rattle.eval_acts.specs.Inner.{left}
 use Rattle.eval_acts.specs.RootImports.{file_properties, from_file, from_found}
 use Rattle.eval_acts.specs.Stored.{from_stored, is_stored_known, stored_value}
-use Rattle.eval_lookups.specs.LookUpNeeds.{lookup_needs}
+use Rattle.eval_commands.specs.LookUpNeeds.{lookup_needs}
 use Rattle.eval_acts.specs.Imports.{builtin_run, from_answer_or_noted, from_cmdline, from_line, from_parent, from_part, from_program, name_given, names_fitting, parent_properties, words_for}
 use Rattle.eval_acts.specs.Imports.{not_run, run_builtin, taken, with_found}
 use Rattle.eval_acts.specs.Printed.{printed_properties}

@@ -10,7 +10,7 @@ use Rattle.text_bytes.specs.declared.profile.Profile.{Profile}
 use Rattle.text_bytes.specs.declared.source_file.SourceFile.{SourceFile}
 use Rattle.text_bytes.specs.Text.{Text}
 use Rattle.text_tables.specs.Pairs.{Pair}
-use Rattle.builtin_knowledge.specs.Knowledge.{Known}
+use Rattle.builtin_devices.specs.Knowledge.{Known}
 use Rattle.rule_core.specs.Rules.{set_of_as}
 use Rattle.device_core.specs.Faults.{block_gives}
 use Rattle.device_core.specs.Values.{DeviceValue, EventValue, by_profile}
@@ -21,7 +21,7 @@ use Rattle.eval_rules.specs.declared.outcome.Outcome.{Outcome}
 use Rattle.eval_laws.specs.Weights.{command_weight, most_about_a_block, note_weight, outcome_weight}
 use Rattle.eval_effects.specs.Items.{item_name, label_item}
 use Rattle.engine_answers.specs.Lines.{block_note_lines, note_line, pair_line, run_line, text_line}
-use Rattle.engine_ends.specs.EventLine.{event_line}
+use Rattle.engine_sessions.specs.EventLine.{event_line}
 use Rattle.engine_answers.specs.Inner.{shown_line}
 use Rattle.engine_answers.specs.Items.{ItemLine, env_lines, item_lines, label_lines, member_lines, node_lines, value_lines}
 use Rattle.engine_answers.specs.Answers.{answer, lines_with}

@@ -30,7 +30,7 @@ use Rattle.eval_rendering.specs.Rendering.{rendered_as_udev}
 use Rattle.eval_rendering.specs.declared.rendered.Mode.TheVariants.{Plain}
 use Rattle.eval_rendering.specs.declared.rendered.Rendered.{Rendered}
 use Rattle.eval_rendering.specs.declared.rendered.Rendered.TheVariants as rendered
-use Rattle.rule_templates.specs.Reading.{left_of}
+use Rattle.rule_tokens.specs.TemplateReading.{left_of}
 use Rattle.eval_state.specs.declared.scene.Scene.{Scene}
 use Rattle.eval_assignments.specs.Assigning.{assigned, group_set, labels_before, link_text, or_written, owner_set, unless_empty}
 use Rattle.eval_state.specs.Chains.{device_at}

@@ -9,9 +9,9 @@ use Rattle.text_bytes.specs.declared.profile.Profile.TheVariants.{Manual, Udev}
 use Rattle.text_tables.specs.Pairs.{value_of}
 use Rattle.text_bytes.specs.Text.{Text}
 use Rattle.device_core.specs.Values.{DeviceValue}
-use Rattle.rule_templates.specs.Template.{Parts as Template}
-use Rattle.rule_templates.specs.declared.piece.Piece.{Piece}
-use Rattle.rule_templates.specs.declared.piece.Piece.TheVariants as piece
+use Rattle.rule_tokens.specs.Template.{Parts as Template}
+use Rattle.rule_tokens.specs.declared.piece.Piece.{Piece}
+use Rattle.rule_tokens.specs.declared.piece.Piece.TheVariants as piece
 use Rattle.eval_state.specs.Chains.{device_at}
 use Rattle.eval_state.specs.Named.{NamedValue, named, named_place}
 use Rattle.eval_state.specs.Texts.{or_empty}
@@ -19,7 +19,7 @@ use Rattle.eval_state.specs.declared.state.State.{State}
 use Rattle.eval_rendering.specs.Bounds.{bounded, most_value_bytes}
 use Rattle.eval_rendering.specs.Pieces.{as_read, attribute_as, attribute_named, attribute_of, attribute_read, cut_off, has_long, is_long, named_attribute, or_else, piece_text}
 use Rattle.eval_rendering.specs.Rendering.{as_rendered, render, text_in}
-use Rattle.text_links.specs.Safe.{attribute_marks, safe}
+use Rattle.text_bytes.specs.Safe.{attribute_marks, safe}
 use Rattle.eval_rendering.specs.declared.rendered.Mode.{Mode}
 use Rattle.eval_rendering.specs.declared.rendered.Rendered.TheVariants as rendered
 

@@ -6,11 +6,11 @@ use Rattle.text_bytes.specs.declared.profile.Profile.{Profile}
 use Rattle.text_bytes.specs.declared.profile.Profile.TheVariants.{Manual, Udev}
 use Rattle.text_bytes.specs.Text.{Text}
 use Rattle.device_core.specs.Values.{EventValue}
-use Rattle.device_notes.specs.Notes.{about, block_notes, due_note, is_due, kinds, note_about, note_if, notes_by, text_of}
-use Rattle.device_notes.specs.declared.kinds.BlockNoteKind.{BlockNoteKind}
-use Rattle.device_notes.specs.declared.kinds.BlockNoteKind.TheVariants.{BehindCommands, GoneAttributes, NoSubsystem, PathBeginsWithSys, ReturnAtEnds, StoredByUdev, UnknownAction}
-use Rattle.device_notes.specs.declared.notes.BlockNote.{BlockNote}
-use Rattle.engine_ends.specs.Places.{word_part}
+use Rattle.device_core.specs.Notes.{about, block_notes, due_note, is_due, kinds, note_about, note_if, notes_by, text_of}
+use Rattle.device_core.specs.declared.kinds.BlockNoteKind.{BlockNoteKind}
+use Rattle.device_core.specs.declared.kinds.BlockNoteKind.TheVariants.{BehindCommands, GoneAttributes, NoSubsystem, PathBeginsWithSys, ReturnAtEnds, StoredByUdev, UnknownAction}
+use Rattle.device_core.specs.declared.notes.BlockNote.{BlockNote}
+use Rattle.engine_sessions.specs.Places.{word_part}
 use Rattle.engine_answers.specs.Lines.{block_note_line, block_note_lines}
 use Rattle.eval_laws.specs.Weights.{most_about_a_block}
 use Rattle.eval_laws.proofs.Lines.{line_length, word_short}

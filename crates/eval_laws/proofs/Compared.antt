@@ -6,8 +6,8 @@ use Rattle.text_core.specs.Choices.{choice_fits}
 use Rattle.text_bytes.specs.Texts.{trimmed}
 use Rattle.rule_types.specs.declared.roles.MatchOperator.TheVariants.{Equal, NotEqual}
 use Rattle.rule_types.specs.declared.part.Comparison.{Comparison}
-use Rattle.eval_matching.specs.Holding.{Subject, as_compared, attribute, constant, holds, members, never, one, udev_attribute, udev_members, udev_subsystem, udev_unread, unread}
-use Rattle.eval_matching.specs.Udev.{compared_with, members_fit, subsystem_fits}
+use Rattle.eval_rendering.specs.Holding.{Subject, as_compared, attribute, constant, holds, members, never, one, udev_attribute, udev_members, udev_subsystem, udev_unread, unread}
+use Rattle.eval_rendering.specs.Udev.{compared_with, members_fit, subsystem_fits}
 use Rattle.eval_laws.specs.Comparing.{AreOpposite, ComparesAsItIs, ComparesWithoutItsEnd}
 use Rattle.eval_laws.proofs.TextEnds.{choice_seen, choice_unseen, trimmed_is}
 

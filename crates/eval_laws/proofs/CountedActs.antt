@@ -11,10 +11,10 @@ use Rattle.text_tables.specs.Pairs.{Pair, value_of}
 use Rattle.text_core.specs.Fnmatch.{fnmatch_items}
 use Rattle.text_core.specs.declared.item.Item.{Item}
 use Rattle.text_core.specs.declared.reading.Reading.TheVariants.{Exact}
-use Rattle.builtin_knowledge.specs.Knowledge.{Known}
-use Rattle.builtin_knowledge.specs.declared.root_files.RootFile.{RootFile}
-use Rattle.builtin_knowledge.specs.declared.root_files.RootFile.TheVariants.{Absent, Read}
-use Rattle.rule_templates.specs.Template.{Parts as Template}
+use Rattle.builtin_devices.specs.Knowledge.{Known}
+use Rattle.builtin_devices.specs.declared.root_files.RootFile.{RootFile}
+use Rattle.builtin_devices.specs.declared.root_files.RootFile.TheVariants.{Absent, Read}
+use Rattle.rule_tokens.specs.Template.{Parts as Template}
 use Rattle.rule_types.specs.Names.{import_name}
 use Rattle.rule_types.specs.WrittenParts.{attribute_of_act_kind, key_of_act_kind}
 use Rattle.rule_types.specs.declared.part.Act.{Act}
@@ -40,7 +40,7 @@ use Rattle.eval_state.specs.declared.notes.Note.{Note}
 use Rattle.eval_state.specs.declared.note_kind.NoteKind.{NoteKind}
 use Rattle.eval_state.specs.declared.note_kind.NoteKind.TheVariants.{AttributeNotRead, BadHwdbArguments, BuiltinNeeds, BuiltinNotRun, ImportNotRun, NoAnswer, TestNotMade, TextTooLong}
 use Rattle.eval_state.specs.declared.scene.Scene.{Scene}
-use Rattle.eval_matching.specs.Attributes.{is_not_read}
+use Rattle.eval_rendering.specs.Attributes.{is_not_read}
 use Rattle.rule_types.specs.Builtins.{builtin_name}
 use Rattle.rule_types.specs.declared.builtins.Builtin.TheVariants.{InputId, NetId, NetSetupLink, PathId, UsbId}
 use Rattle.builtin_devices.specs.Outcomes.{OutcomeValue}
@@ -55,8 +55,8 @@ use Rattle.eval_acts.specs.Inner.{left}
 use Rattle.eval_acts.specs.RootImports.{file_properties, from_file, from_found}
 use Rattle.eval_acts.specs.Stored.{from_stored, is_stored_known, stored_value}
 use Rattle.eval_acts.specs.Imports.{builtin_run, from_answer_or_noted, from_line, from_parent, from_part, from_program, name_given, not_run, run_builtin, taken, words_for}
-use Rattle.eval_lookups.specs.LookUpNeeds.{lookup_needs}
-use Rattle.eval_lookups.specs.LookUps.{found}
+use Rattle.eval_commands.specs.LookUpNeeds.{lookup_needs}
+use Rattle.eval_commands.specs.LookUps.{found}
 use Rattle.eval_acts.specs.Printed.{printed_properties}
 use Rattle.eval_acts.specs.Questions.{answered_by_block, answered_or_noted, is_somewhere, result_of, tested, tested_at, tested_by, tested_by_udev, tested_here, with_result}
 use Rattle.eval_acts.specs.Unread.{first_unread, unread_notes}

@@ -10,7 +10,7 @@ use Rattle.text_tables.specs.Pairs.{value_of}
 use Rattle.rule_types.specs.Names.{run_name}
 use Rattle.rule_types.specs.Topics.{mode_of}
 use Rattle.rule_types.specs.declared.types.RunType.{RunType}
-use Rattle.rule_templates.specs.Template.{Parts as Template}
+use Rattle.rule_tokens.specs.Template.{Parts as Template}
 use Rattle.rule_types.specs.Written.{attribute_of_target, key_of_target}
 use Rattle.rule_types.specs.declared.roles.AssignOperator.{AssignOperator}
 use Rattle.rule_types.specs.declared.roles.AssignOperator.TheVariants.{Assign, Add, Remove, AssignFinal}

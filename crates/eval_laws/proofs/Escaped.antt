@@ -4,8 +4,8 @@ use Rattle.std.proofs.lemmas.List.{length-map}
 use Rattle.text_bytes.specs.declared.profile.Profile.{Profile}
 use Rattle.text_bytes.specs.declared.profile.Profile.TheVariants.{Manual, Udev}
 use Rattle.text_bytes.specs.Text.{Text}
-use Rattle.text_links.specs.Safe.{link_marks, safe}
-use Rattle.text_links.proofs.Places.{length-safe}
+use Rattle.text_bytes.specs.Safe.{link_marks, safe}
+use Rattle.text_bytes.proofs.LinkPlaces.{length-safe}
 use Rattle.eval_assignments.specs.declared.escapes.Escape.{Escape}
 use Rattle.eval_assignments.specs.declared.escapes.Escape.TheVariants as escape
 use Rattle.eval_assignments.specs.Assigning.{link_text}

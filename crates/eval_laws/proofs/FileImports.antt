@@ -7,10 +7,10 @@ use Rattle.text_bytes.specs.Texts.{split_once}
 use Rattle.text_bytes.specs.declared.profile.Profile.{Profile}
 use Rattle.text_bytes.specs.declared.profile.Profile.TheVariants.{Manual, Udev}
 use Rattle.text_bytes.specs.Text.{Text}
-use Rattle.builtin_knowledge.specs.Knowledge.{Known}
-use Rattle.builtin_knowledge.specs.declared.root_files.RootFile.{RootFile}
-use Rattle.builtin_knowledge.specs.declared.root_files.RootFile.TheVariants.{Absent, Read}
-use Rattle.rule_templates.specs.Template.{Parts as Template}
+use Rattle.builtin_devices.specs.Knowledge.{Known}
+use Rattle.builtin_devices.specs.declared.root_files.RootFile.{RootFile}
+use Rattle.builtin_devices.specs.declared.root_files.RootFile.TheVariants.{Absent, Read}
+use Rattle.rule_tokens.specs.Template.{Parts as Template}
 use Rattle.rule_types.specs.declared.part.ActKind.TheVariants as act_kind
 use Rattle.rule_types.specs.declared.part.Import.TheVariants as import
 use Rattle.rule_types.specs.Rules.{Rule}

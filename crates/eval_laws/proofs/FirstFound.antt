@@ -7,9 +7,9 @@ use Rattle.text_bytes.specs.declared.profile.Profile.{Profile}
 use Rattle.text_bytes.specs.declared.profile.Profile.TheVariants.{Manual, Udev}
 use Rattle.text_bytes.specs.Text.{Text}
 use Rattle.text_tables.specs.Pairs.{Pair}
-use Rattle.builtin_knowledge.specs.Knowledge.{Known}
+use Rattle.builtin_devices.specs.Knowledge.{Known}
 use Rattle.eval_state.specs.declared.state.State.{State}
-use Rattle.eval_lookups.specs.LookUps.{Candidate, candidates, count_before_usb, counted_properties, first_found, found, is_last, modaliases, modaliases_by, modaliases_in, texts, through, udev_modaliases_of}
+use Rattle.eval_commands.specs.LookUps.{Candidate, candidates, count_before_usb, counted_properties, first_found, found, is_last, modaliases, modaliases_by, modaliases_in, texts, through, udev_modaliases_of}
 use Rattle.eval_commands.specs.declared.hwdb.Hwdb.{Hwdb}
 use Rattle.eval_laws.specs.LookUps.{IsFirstAnswer, texts_of}
 

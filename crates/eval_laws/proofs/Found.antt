@@ -5,12 +5,12 @@ use Rattle.text_bytes.specs.Texts.{is_empty}
 use Rattle.text_bytes.specs.Text.{Text}
 use Rattle.text_tables.specs.Pairs.{Pair}
 use Rattle.text_core.specs.Fits.{fits}
-use Rattle.hwdb_lookup.specs.Query.{fitting, property, put, query, winner, winners}
-use Rattle.hwdb_lookup.specs.declared.entry.Entry.{Entry}
-use Rattle.builtin_knowledge.specs.Knowledge.{Known}
+use Rattle.trie_nodes.specs.Query.{fitting, property, put, query, winner, winners}
+use Rattle.trie_nodes.specs.declared.entry.Entry.{Entry}
+use Rattle.builtin_devices.specs.Knowledge.{Known}
 use Rattle.eval_laws.specs.DeviceWeights.{pair_weight, pairs_weight}
 use Rattle.eval_state.specs.declared.state.State.{State}
-use Rattle.eval_lookups.specs.LookUps.{counted_properties, counts, first_found, found, texts}
+use Rattle.eval_commands.specs.LookUps.{counted_properties, counts, first_found, found, texts}
 use Rattle.eval_commands.specs.declared.hwdb.Hwdb.{Hwdb}
 use Rattle.eval_laws.specs.Allowances.{entries_weight, entry_weight}
 use Rattle.eval_laws.proofs.Sums.{filter_light, fold_light, put_light}

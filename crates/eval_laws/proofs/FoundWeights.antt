@@ -6,13 +6,13 @@ use Rattle.text_bytes.specs.declared.profile.Profile.{Profile}
 use Rattle.text_bytes.specs.declared.profile.Profile.TheVariants.{Manual, Udev}
 use Rattle.text_bytes.specs.Text.{Text}
 use Rattle.text_tables.specs.Pairs.{Pair}
-use Rattle.builtin_knowledge.specs.Knowledge.{Known}
+use Rattle.builtin_devices.specs.Knowledge.{Known}
 use Rattle.device_core.specs.Values.{DeviceValue, EventValue}
 use Rattle.eval_laws.specs.DeviceWeights.{device_weight, devices_weight, event_weight, pair_weight, pairs_weight}
 use Rattle.eval_state.specs.Chains.{device_at}
-use Rattle.hwdb_lookup.specs.Query.{query}
+use Rattle.trie_nodes.specs.Query.{query}
 use Rattle.eval_acts.specs.BuiltinRuns.{is_address_name, looked_up, properties_size, property_size, with_maker}
-use Rattle.eval_lookups.specs.LookUps.{found}
+use Rattle.eval_commands.specs.LookUps.{found}
 use Rattle.eval_state.specs.Properties.{property_set}
 use Rattle.eval_acts.specs.Imports.{with_found}
 use Rattle.eval_laws.specs.Allowances.{entries_weight}

@@ -8,9 +8,9 @@ use Rattle.text_bytes.specs.Text.{Text}
 use Rattle.text_tables.specs.Pairs.{Pair, value_of, with_values}
 use Rattle.text_core.specs.Choices.{choice_fits}
 use Rattle.text_core.specs.declared.item.Item.{Item}
-use Rattle.builtin_knowledge.specs.Knowledge.{Known}
+use Rattle.builtin_devices.specs.Knowledge.{Known}
 use Rattle.device_core.specs.Values.{DeviceValue}
-use Rattle.rule_templates.specs.Template.{Parts as Template}
+use Rattle.rule_tokens.specs.Template.{Parts as Template}
 use Rattle.rule_types.specs.declared.part.ActKind.{ActKind}
 use Rattle.rule_types.specs.declared.part.ActKind.TheVariants as act_kind
 use Rattle.rule_types.specs.declared.part.Import.TheVariants as import
@@ -34,8 +34,8 @@ use Rattle.eval_acts.specs.Acts as acts
 use Rattle.eval_acts.specs.Acts.{act_step, command_reached, imported, on_text, proceeds, too_long_noted}
 use Rattle.eval_acts.specs.BuiltinRuns.{needs_noted}
 use Rattle.eval_acts.specs.Imports.{builtin_run, from_parent, parent_properties, run_builtin, with_found}
-use Rattle.eval_lookups.specs.LookUpNeeds.{lookup_needs}
-use Rattle.eval_lookups.specs.LookUps.{found}
+use Rattle.eval_commands.specs.LookUpNeeds.{lookup_needs}
+use Rattle.eval_commands.specs.LookUps.{found}
 use Rattle.eval_acts.specs.Questions.{tested, tested_by}
 use Rattle.eval_laws.specs.Acting.{builtin_import, parent_import, test}
 

@@ -11,11 +11,11 @@ use Rattle.text_tables.specs.Pairs.{Pair, value_of}
 use Rattle.text_core.specs.Fnmatch.{fnmatch_items}
 use Rattle.text_core.specs.declared.item.Item.{Item}
 use Rattle.text_core.specs.declared.reading.Reading.TheVariants.{Exact}
-use Rattle.builtin_knowledge.specs.Knowledge.{Known}
-use Rattle.builtin_knowledge.specs.declared.root_files.RootFile.{RootFile}
-use Rattle.builtin_knowledge.specs.declared.root_files.RootFile.TheVariants.{Absent, Read}
+use Rattle.builtin_devices.specs.Knowledge.{Known}
+use Rattle.builtin_devices.specs.declared.root_files.RootFile.{RootFile}
+use Rattle.builtin_devices.specs.declared.root_files.RootFile.TheVariants.{Absent, Read}
 use Rattle.device_core.specs.Values.{AnswerValue, DeviceValue}
-use Rattle.rule_templates.specs.Template.{Parts}
+use Rattle.rule_tokens.specs.Template.{Parts}
 use Rattle.rule_types.specs.declared.roles.PlainKey.{PlainKey}
 use Rattle.rule_types.specs.declared.roles.PlainKey.TheVariants as plain
 use Rattle.rule_types.specs.declared.part.Act.{Act}
@@ -50,16 +50,16 @@ use Rattle.eval_state.specs.Finals.{is_final}
 use Rattle.eval_state.specs.declared.finals.FinalKey.{FinalKey}
 use Rattle.eval_state.specs.declared.finals.FinalKey.TheVariants as key
 use Rattle.eval_state.specs.declared.scene.Scene.{Scene}
-use Rattle.eval_matching.specs.Attributes.{is_not_read}
-use Rattle.eval_matching.specs.Subjects.{is_not_given}
+use Rattle.eval_rendering.specs.Attributes.{is_not_read}
+use Rattle.eval_rendering.specs.Subjects.{is_not_given}
 use Rattle.eval_acts.specs.ActTexts.{import_text, names_text, program_text}
 use Rattle.eval_acts.specs.Acts.{act_step, command_reached, from_parent_by, import_reached, imported, on_text, performed, too_long_noted}
 use Rattle.eval_acts.specs.BuiltinRuns.{looked_up, most_set, needs_noted, outcome_set, outcome_taken, path_id_run, properties_size, usb_id_run, with_maker}
 use Rattle.eval_acts.specs.RootImports.{file_properties, from_file, from_found}
 use Rattle.eval_acts.specs.Stored.{from_stored, is_stored_known, stored_value}
 use Rattle.eval_acts.specs.Imports.{builtin_run, from_answer_or_noted, from_line, from_parent, from_part, from_program, name_given, not_run, run_builtin, taken, words_for}
-use Rattle.eval_lookups.specs.LookUpNeeds.{lookup_needs}
-use Rattle.eval_lookups.specs.LookUps.{found}
+use Rattle.eval_commands.specs.LookUpNeeds.{lookup_needs}
+use Rattle.eval_commands.specs.LookUps.{found}
 use Rattle.eval_acts.specs.Printed.{printed_properties}
 use Rattle.eval_acts.specs.Questions.{answered_by_block, answered_or_noted, is_somewhere, result_of, tested, tested_at, tested_by, tested_by_udev, tested_here, with_result}
 use Rattle.eval_acts.specs.Reaching.{match_reached}

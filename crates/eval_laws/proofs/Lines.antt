@@ -16,7 +16,7 @@ use Rattle.eval_state.specs.declared.note_kind.NoteKind.TheVariants.{ImportNotRu
 use Rattle.eval_state.specs.declared.notes.Note.{Note}
 use Rattle.eval_rules.specs.declared.outcome.Command.{Command}
 use Rattle.eval_laws.specs.Weights.{command_weight, note_weight}
-use Rattle.engine_ends.specs.Places.{place_of, word_part}
+use Rattle.engine_sessions.specs.Places.{place_of, word_part}
 use Rattle.engine_answers.specs.Lines.{is_hidden, line, note_line, pair_line, run_line, text_line}
 use Rattle.engine_answers.specs.Answers.{lines_after}
 use Rattle.engine_answers.specs.Inner.{shown_line}

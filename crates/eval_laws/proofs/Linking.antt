@@ -1,8 +1,8 @@
 -- A text that is rendered for a link was made safe.
 use Rattle.std.proofs.Common.{◌≡◌, Bool, true, false, if◌then◌else◌, Option, Some, None, ap, subst, flat_map}
 use Rattle.text_bytes.specs.Text.{Text}
-use Rattle.text_links.specs.Safe.{link_marks, safe}
-use Rattle.rule_templates.specs.Template.{Parts as Template}
+use Rattle.text_bytes.specs.Safe.{link_marks, safe}
+use Rattle.rule_tokens.specs.Template.{Parts as Template}
 use Rattle.eval_state.specs.declared.state.State.{State}
 use Rattle.eval_rendering.specs.Bounds.{bounded}
 use Rattle.eval_rendering.specs.Pieces.{has_long}

@@ -5,7 +5,7 @@ use Rattle.text_bytes.specs.Texts.{is_empty}
 use Rattle.text_bytes.specs.declared.profile.Profile.{Profile}
 use Rattle.text_bytes.specs.declared.profile.Profile.TheVariants.{Manual, Udev}
 use Rattle.text_bytes.specs.Text.{Text}
-use Rattle.rule_templates.specs.Template.{Parts as Template}
+use Rattle.rule_tokens.specs.Template.{Parts as Template}
 use Rattle.rule_types.specs.Topics as topics
 use Rattle.rule_types.specs.Written.{attribute_of_target, key_of_target}
 use Rattle.rule_types.specs.declared.part.Assignment.{Assignment}

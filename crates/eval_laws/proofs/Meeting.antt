@@ -3,7 +3,7 @@ use Rattle.std.proofs.Common.{◌≡◌, ◌↔◌, ℕ, nat_lt, ltb-true, ltb-f
 use Rattle.std.specs.List.{fold, list_all}
 use Rattle.text_bytes.specs.declared.profile.Profile.{Profile}
 use Rattle.text_bytes.specs.declared.profile.Profile.TheVariants.{Manual}
-use Rattle.builtin_knowledge.specs.Knowledge.{Known}
+use Rattle.builtin_devices.specs.Knowledge.{Known}
 use Rattle.device_core.specs.Values.{EventValue, chain}
 use Rattle.rule_types.specs.declared.part.Act.{Act}
 use Rattle.rule_types.specs.declared.part.Comparison.{Comparison}
@@ -11,10 +11,10 @@ use Rattle.rule_types.specs.declared.part.PlainMatch.{PlainMatch}
 use Rattle.rule_types.specs.declared.part.UpMatch.{UpMatch}
 use Rattle.rule_types.specs.Rules.{Rule}
 use Rattle.eval_state.specs.declared.state.State.{State}
-use Rattle.eval_matching.specs.Holding.{holds, one}
-use Rattle.eval_matching.specs.Laws.{IsFirstToMeet}
-use Rattle.eval_matching.specs.Subjects.{found_place, holds_at, plain_subject}
-use Rattle.eval_matching.proofs.Finding.{found_first, none_found}
+use Rattle.eval_rendering.specs.Holding.{holds, one}
+use Rattle.eval_rendering.specs.Laws.{IsFirstToMeet}
+use Rattle.eval_rendering.specs.Subjects.{found_place, holds_at, plain_subject}
+use Rattle.eval_rendering.proofs.Finding.{found_first, none_found}
 use Rattle.eval_state.specs.declared.scene.Scene.{Scene}
 use Rattle.eval_acts.specs.Acts.{act_step}
 use Rattle.eval_acts.specs.Reaching.{match_reached}

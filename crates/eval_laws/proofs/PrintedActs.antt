@@ -5,8 +5,8 @@ use Rattle.text_bytes.specs.declared.profile.Profile.TheVariants.{Udev}
 use Rattle.text_bytes.specs.Text.{Text}
 use Rattle.text_tables.specs.Pairs.{value_of}
 use Rattle.device_core.specs.Values.{AnswerValue}
-use Rattle.builtin_knowledge.specs.Knowledge.{Known}
-use Rattle.rule_templates.specs.Template.{Parts as Template}
+use Rattle.builtin_devices.specs.Knowledge.{Known}
+use Rattle.rule_tokens.specs.Template.{Parts as Template}
 use Rattle.rule_types.specs.declared.part.ActKind.{ActKind}
 use Rattle.rule_types.specs.declared.part.ActKind.TheVariants as act_kind
 use Rattle.rule_types.specs.declared.part.Import.TheVariants as import
@@ -19,7 +19,7 @@ use Rattle.eval_rendering.specs.declared.rendered.Rendered.TheVariants as outcom
 use Rattle.eval_state.specs.Properties.{properties_set}
 use Rattle.eval_state.specs.Scenes.{with_env}
 use Rattle.eval_state.specs.declared.scene.Scene.{Scene}
-use Rattle.eval_matching.specs.Holding.{agrees}
+use Rattle.eval_rendering.specs.Holding.{agrees}
 use Rattle.eval_acts.specs.ActTexts.{import_text}
 use Rattle.eval_acts.specs.Acts as acts
 use Rattle.eval_acts.specs.Acts.{act_step, imported, proceeds, on_text}

@@ -1,9 +1,9 @@
 -- A rendered text has at most 16,384 bytes.
 use Rattle.std.proofs.Common.{◌≡◌, ◌≤◌, Bool, true, false, nat_lt, ltb-false, length, flat_map, Option, Some, None, refl, if◌then◌else◌, ℕ, arith}
 use Rattle.text_bytes.specs.Text.{Text}
-use Rattle.text_links.specs.Safe.{link_marks}
-use Rattle.text_links.proofs.Places.{length-safe}
-use Rattle.rule_templates.specs.Template.{Parts as Template}
+use Rattle.text_bytes.specs.Safe.{link_marks}
+use Rattle.text_bytes.proofs.LinkPlaces.{length-safe}
+use Rattle.rule_tokens.specs.Template.{Parts as Template}
 use Rattle.eval_state.specs.declared.state.State.{State}
 use Rattle.eval_rendering.specs.Bounds.{bounded, most_bytes, within}
 use Rattle.eval_rendering.specs.Pieces.{has_long}

@@ -8,8 +8,8 @@ use Rattle.std.proofs.lemmas.List.{get_or-drop}
 use Rattle.text_bytes.specs.Names.{backslash, space, underscore, is_whitespace}
 use Rattle.bstr.specs.Utf8.{Decoded, bad, continues, decoded, second}
 use Rattle.bstr.proofs.lemmas.PieceLemmas.{Shape, decoded_by-shape}
-use Rattle.text_links.specs.Safe.{is_hex_escape, is_in_sequence, stays_anywhere, is_reached, safe, safe_byte, sequence_len, stays}
-use Rattle.text_links.proofs.Places.{safe-at}
+use Rattle.text_bytes.specs.Safe.{is_hex_escape, is_in_sequence, stays_anywhere, is_reached, safe, safe_byte, sequence_len, stays}
+use Rattle.text_bytes.proofs.LinkPlaces.{safe-at}
 use Rattle.eval_laws.specs.SafeTexts.{IsInCharacter, IsMadeSafe, IsSafe, IsSafeByte, letter_or_digit, mark, blank, escape, character}
 use Rattle.eval_laws.proofs.Sequences.{several, sequence_len-four}
 use Rattle.eval_laws.proofs.Staying.{IsLeft, both, each_of, in_is_reached, in_sequence-stays, left-at, one_of, plain-stays, safe-are_left, safe-same, second_holds}

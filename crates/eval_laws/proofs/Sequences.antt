@@ -3,7 +3,7 @@ use Rattle.std.proofs.Common.{◌≡◌, ℕ, ◌<◌, ◌≤◌, ◌==◌, ◌&
 use Rattle.bstr.specs.Utf8.{Decoded, bad, good, decoded, decoded_by, second, continues, code_of_2, code_of_3, code_of_4}
 use Rattle.bstr.proofs.lemmas.PieceLemmas.{piece-bounds, size-within}
 use Rattle.std.proofs.lemmas.Bool.{ltb-true}
-use Rattle.text_links.specs.Safe.{sequence_len}
+use Rattle.text_bytes.specs.Safe.{sequence_len}
 
 -- how many bytes a sequence of several bytes has, by what was decoded
 abbrev pub several : Decoded → ℕ

@@ -19,9 +19,9 @@ use Rattle.rule_types.specs.Roles.{role_of}
 use Rattle.rule_types.specs.Topics.{topic_of}
 use Rattle.rule_types.specs.declared.roles.Role.{Role}
 use Rattle.rule_types.specs.declared.roles.Role.TheVariants as role
-use Rattle.rule_jumps.specs.Jumps.{landings}
-use Rattle.rule_jumps.specs.declared.jumps.Landing.{Landing}
-use Rattle.rule_templates.specs.Integers.{integer_of}
+use Rattle.rule_types.specs.Jumps.{landings}
+use Rattle.rule_types.specs.declared.jumps.Landing.{Landing}
+use Rattle.rule_tokens.specs.Integers.{integer_of}
 use Rattle.text_bytes.specs.Texts.{following}
 use Rattle.rule_parts.specs.Options.{as_priority, beside, is_ignored, level_of, number_by, number_of, option_by, option_of, other_option, priority_of, udev_option, udev_other, words}
 use Rattle.rule_parts.specs.Refusals.{refusal_by}

@@ -4,8 +4,8 @@ use Rattle.std.proofs.lemmas.Bool.{ltb-true, lt-ltb, le-leb, eqb-true, cases_lt}
 use Rattle.std.proofs.lemmas.List.{get_or-drop, get_or_past, length-drop}
 use Rattle.std.proofs.lemmas.Grind.{same_number_lists}
 use Rattle.text_bytes.specs.Names.{backslash, space, underscore, is_whitespace}
-use Rattle.text_links.specs.Safe.{stays_anywhere, is_hex_escape, is_in_sequence, is_reached, safe, safe_byte, sequence_len, stays}
-use Rattle.text_links.proofs.Places.{length-safe, safe-at}
+use Rattle.text_bytes.specs.Safe.{stays_anywhere, is_hex_escape, is_in_sequence, is_reached, safe, safe_byte, sequence_len, stays}
+use Rattle.text_bytes.proofs.LinkPlaces.{length-safe, safe-at}
 use Rattle.eval_laws.proofs.Sequences.{sequence_len-four, sequence_len-same, sequence_len-within}
 
 -- a byte is a space, or one that stays at its place

@@ -10,8 +10,8 @@ use Rattle.text_bytes.specs.Text.{Text}
 use Rattle.text_core.specs.declared.item.Item.{Item}
 use Rattle.text_core.specs.declared.item.Item.TheVariants as item
 use Rattle.text_bytes.specs.Texts.{trimmed}
-use Rattle.eval_matching.specs.Holding.{ends_in_whitespace, is_whitespace_item}
-use Rattle.eval_matching.specs.Udev.{last_is, passes}
+use Rattle.eval_rendering.specs.Holding.{ends_in_whitespace, is_whitespace_item}
+use Rattle.eval_rendering.specs.Udev.{last_is, passes}
 use Rattle.eval_laws.specs.Comparing.{EndsInWhitespace, HasLast, IsWhitespace, IsWhitespaceItem, IsWithoutItsEnd}
 
 -- ---- last elements

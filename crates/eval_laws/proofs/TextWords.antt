@@ -7,9 +7,9 @@ use Rattle.text_bytes.specs.Names.{underscore, is_whitespace}
 use Rattle.text_bytes.specs.Texts.{is_empty, skip_while}
 use Rattle.text_bytes.specs.Text.{Text}
 use Rattle.eval_state.specs.Texts.{or_empty}
-use Rattle.text_links.specs.Underscores.{underscored, words}
+use Rattle.text_bytes.specs.Underscores.{underscored, words}
 use Rattle.eval_rendering.specs.Words.{from_word, word_at, word_len}
-use Rattle.text_links.proofs.JoinedWords.{beginning, kept, others, words_begin}
+use Rattle.text_bytes.proofs.JoinedWords.{beginning, kept, others, words_begin}
 use Rattle.eval_laws.specs.TextWords.{BeginsWithGap, BeginsWithWord, HasNoWhitespace, HasWords, IsEndFromWord, IsGap}
 
 -- ---- a byte more

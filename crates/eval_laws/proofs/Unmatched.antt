@@ -1,20 +1,20 @@
 -- Matches change nothing but the notes, so that a rule whose matches do not hold changes nothing else.
 use Rattle.std.proofs.Common.{◌≡◌, Bool, true, false, cond, ◌||◌, ◌&&◌, List, [], ◌∷◌, None, refl, ap, sym, ◌∙◌}
 use Rattle.std.specs.List.{list_all, list_any}
-use Rattle.builtin_knowledge.specs.Knowledge.{Known}
+use Rattle.builtin_devices.specs.Knowledge.{Known}
 use Rattle.rule_types.specs.declared.roles.PlainKey.{PlainKey}
 use Rattle.rule_types.specs.declared.roles.PlainKey.TheVariants as plain
 use Rattle.rule_types.specs.declared.part.PlainMatch.{PlainMatch}
 use Rattle.rule_types.specs.Rules.{Rule}
 use Rattle.eval_state.specs.declared.state.State.{State}
-use Rattle.eval_matching.specs.Holding.{holds}
-use Rattle.eval_matching.specs.Subjects.{plain_subject}
+use Rattle.eval_rendering.specs.Holding.{holds}
+use Rattle.eval_rendering.specs.Subjects.{plain_subject}
 use Rattle.eval_state.specs.declared.notes.Note.{Note}
 use Rattle.eval_state.specs.declared.scene.Scene.{Scene}
 use Rattle.eval_acts.specs.Acts.{act_step}
 use Rattle.eval_acts.specs.Reaching.{match_reached}
-use Rattle.eval_matching.specs.Attributes.{is_not_read}
-use Rattle.eval_matching.specs.Subjects.{is_not_given}
+use Rattle.eval_rendering.specs.Attributes.{is_not_read}
+use Rattle.eval_rendering.specs.Subjects.{is_not_given}
 use Rattle.eval_state.specs.Scenes.{noted}
 use Rattle.eval_state.specs.declared.note_kind.NoteKind.TheVariants.{AttributeNotRead, ConstantNotGiven}
 use Rattle.eval_rules.specs.Idle.{is_idle}

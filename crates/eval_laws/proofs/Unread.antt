@@ -5,13 +5,13 @@ use Rattle.std.specs.Option.{option_or}
 use Rattle.text_bytes.specs.declared.profile.Profile.TheVariants.{Manual}
 use Rattle.text_bytes.specs.Text.{Text}
 use Rattle.device_core.specs.Values.{EventValue}
-use Rattle.rule_templates.specs.Template.{Parts as Template}
-use Rattle.rule_templates.specs.declared.piece.Piece.{Piece}
-use Rattle.rule_templates.specs.declared.piece.Piece.TheVariants as piece
+use Rattle.rule_tokens.specs.Template.{Parts as Template}
+use Rattle.rule_tokens.specs.declared.piece.Piece.{Piece}
+use Rattle.rule_tokens.specs.declared.piece.Piece.TheVariants as piece
 use Rattle.rule_types.specs.declared.part.Import.{Import}
 use Rattle.rule_types.specs.declared.part.Import.TheVariants as import
 use Rattle.rule_types.specs.Rules.{Rule}
-use Rattle.eval_matching.specs.Attributes.{is_not_read}
+use Rattle.eval_rendering.specs.Attributes.{is_not_read}
 use Rattle.eval_state.specs.Notes.{note_about}
 use Rattle.eval_state.specs.declared.note_kind.NoteKind.TheVariants.{AttributeNotRead}
 use Rattle.eval_state.specs.declared.scene.Scene.{Scene}

@@ -12,7 +12,7 @@ use Rattle.rule_types.specs.declared.part.Assignment.{Assignment}
 use Rattle.rule_types.specs.declared.part.UpMatch.{UpMatch}
 use Rattle.rule_types.specs.Rules.{Rule}
 use Rattle.device_core.specs.Values.{EventValue}
-use Rattle.builtin_knowledge.specs.Knowledge.{Known}
+use Rattle.builtin_devices.specs.Knowledge.{Known}
 use Rattle.eval_state.specs.Notes.{note_about}
 use Rattle.eval_state.specs.Scenes.{start}
 use Rattle.eval_state.specs.declared.note_kind.NoteKind.{NoteKind}
@@ -20,7 +20,7 @@ use Rattle.eval_state.specs.declared.note_kind.NoteKind.TheVariants.{AttributeNo
 use Rattle.eval_state.specs.declared.notes.Note.{Note}
 use Rattle.eval_state.specs.declared.scene.Scene.{Scene}
 use Rattle.eval_state.specs.declared.state.State.{State}
-use Rattle.eval_matching.specs.Subjects.{found_place}
+use Rattle.eval_rendering.specs.Subjects.{found_place}
 use Rattle.eval_acts.specs.Unread.{unread_notes}
 use Rattle.eval_assignments.specs.Modes.{four_digits}
 use Rattle.eval_assignments.specs.Steps.{set_step}

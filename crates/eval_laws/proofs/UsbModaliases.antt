@@ -15,8 +15,8 @@ use Rattle.builtin_devices.specs.Devices.{is_of}
 use Rattle.builtin_devices.specs.Numbers.{Written, digit_value, digits_in, is_digit_in, natural, number_after, number_in, size_in, unsigned, written}
 use Rattle.builtin_devices.specs.declared.numbers.Base.TheVariants.{Hexadecimal}
 use Rattle.eval_state.specs.Texts.{filled, or_empty}
-use Rattle.eval_lookups.specs.LookUps.{candidate}
-use Rattle.eval_lookups.specs.UsbModalias.{four_digits, made_up, number_of, text_by, usb_modalias, usb_text}
+use Rattle.eval_commands.specs.LookUps.{candidate}
+use Rattle.eval_commands.specs.UsbModalias.{four_digits, made_up, number_of, text_by, usb_modalias, usb_text}
 
 -- ---- digits
 

@@ -4,7 +4,7 @@ use Rattle.std.specs.List.{sum_by}
 use Rattle.text_bytes.specs.declared.profile.Profile.{Profile}
 use Rattle.text_bytes.specs.declared.profile.Profile.TheVariants.{Manual, Udev}
 use Rattle.text_bytes.specs.Text.{Text}
-use Rattle.hwdb_lookup.specs.declared.entry.Entry.{Entry}
+use Rattle.trie_nodes.specs.declared.entry.Entry.{Entry}
 use Rattle.rule_types.specs.Written.{attribute_of_plain, attribute_of_up}
 use Rattle.rule_types.specs.WrittenParts.{attribute_of_act_kind, attribute_of_change}
 use Rattle.rule_types.specs.declared.roles.Target.{Target}

@@ -17,8 +17,8 @@ use Rattle.rule_types.specs.declared.part.Comparison.{Comparison}
 use Rattle.eval_state.specs.Chains.{kernel_of}
 use Rattle.eval_state.specs.Texts.{or_empty}
 use Rattle.eval_state.specs.declared.state.State.{State}
-use Rattle.eval_matching.specs.Holding.{Subject, holds}
-use Rattle.eval_matching.specs.Subjects.{is_known}
+use Rattle.eval_rendering.specs.Holding.{Subject, holds}
+use Rattle.eval_rendering.specs.Subjects.{is_known}
 
 -- the texts that each match of the event is compared with, of which one has to fit
 abbrev pub event_texts : PlainKey → State → List Text

@@ -1,3 +1,6 @@
+pub mod Filled
+pub mod Noted
+pub mod Told
 pub mod Calls
 pub mod Cuts
 pub mod DeviceWeights

@@ -4,8 +4,8 @@ use Rattle.std.specs.List.{flat_map}
 use Rattle.text_bytes.specs.Names.{equals}
 use Rattle.text_bytes.specs.Text.{Text}
 use Rattle.text_tables.specs.Pairs.{Pair}
-use Rattle.builtin_knowledge.specs.Knowledge.{Known}
-use Rattle.eval_lookups.specs.LookUps.{Candidate, counted_properties, is_wanted}
+use Rattle.builtin_devices.specs.Knowledge.{Known}
+use Rattle.eval_commands.specs.LookUps.{Candidate, counted_properties, is_wanted}
 use Rattle.eval_commands.specs.declared.hwdb.Hwdb.{Hwdb}
 
 -- One of the texts is answered with these properties, and those before it give none.

@@ -3,7 +3,7 @@ use Rattle.std.specs.Prelude.{◌≡◌, Bool, true, false, not, ◌&&◌}
 use Rattle.text_bytes.specs.declared.profile.Profile.{Profile}
 use Rattle.text_bytes.specs.declared.profile.Profile.TheVariants.{Manual, Udev}
 use Rattle.text_bytes.specs.Text.{Text}
-use Rattle.rule_templates.specs.Template.{Parts as Template}
+use Rattle.rule_tokens.specs.Template.{Parts as Template}
 use Rattle.rule_types.specs.declared.roles.AssignOperator.{AssignOperator}
 use Rattle.rule_types.specs.declared.roles.AssignOperator.TheVariants.{AssignFinal}
 use Rattle.rule_types.specs.declared.roles.Target.{Target}

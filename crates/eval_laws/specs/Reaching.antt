@@ -1,12 +1,12 @@
 -- When the end of a rule is reached: all its keys let it go on.
 use Rattle.std.specs.Prelude.{◌≡◌, true, List, [], ◌∷◌, Some, fold}
 use Rattle.std.specs.List.{list_all}
-use Rattle.builtin_knowledge.specs.Knowledge.{Known}
+use Rattle.builtin_devices.specs.Knowledge.{Known}
 use Rattle.rule_types.specs.Rules.{Rule}
 use Rattle.rule_types.specs.declared.part.Act.{Act}
 use Rattle.rule_types.specs.declared.part.UpMatch.{UpMatch}
 use Rattle.eval_state.specs.declared.scene.Scene.{Scene}
-use Rattle.eval_matching.specs.Holding.{holds, one}
+use Rattle.eval_rendering.specs.Holding.{holds, one}
 use Rattle.eval_acts.specs.Acts.{act_step}
 use Rattle.eval_acts.specs.Reaching.{match_reached}
 use Rattle.eval_rules.specs.Laws.{IsMetByOneDevice, plain_hold}

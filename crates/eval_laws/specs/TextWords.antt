@@ -4,7 +4,7 @@ use Rattle.std.specs.List.{list_all, list_any}
 use Rattle.text_bytes.specs.Names.{is_whitespace}
 use Rattle.text_bytes.specs.Texts.{is_empty}
 use Rattle.text_bytes.specs.Text.{Text}
-use Rattle.text_links.specs.Underscores.{words}
+use Rattle.text_bytes.specs.Underscores.{words}
 
 -- whitespace alone, perhaps none
 abbrev pub IsGap : Text → Type 0

@@ -7,7 +7,7 @@ ghost use Rattle.text_bytes.specs.Texts.{is_empty};
 ghost use Rattle.text_bytes.specs.declared.profile.Profile.TheVariants.{Udev};
 ghost use Rattle.text_bytes.specs.Text.{Text};
 ghost use Rattle.text_tables.specs.Texts.{is_among};
-ghost use Rattle.rule_templates.specs.Template as templates;
+ghost use Rattle.rule_tokens.specs.Template as templates;
 ghost use Rattle.rule_types.specs.declared.roles.AssignOperator.{AssignOperator};
 ghost use Rattle.rule_types.specs.declared.roles.AssignOperator.TheVariants.{Add, Remove};
 ghost use Rattle.rule_types.specs.declared.part.Assignment.{Assignment};

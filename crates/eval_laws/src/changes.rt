@@ -10,7 +10,7 @@ ghost use Rattle.text_bytes.specs.declared.profile.Profile.TheVariants.{Manual, 
 ghost use Rattle.text_tables.specs.Pairs.{value_of};
 ghost use Rattle.text_bytes.specs.Text.{Text};
 ghost use Rattle.text_tables.specs.Texts.{is_among, without_text};
-ghost use Rattle.rule_templates.specs.Template as templates;
+ghost use Rattle.rule_tokens.specs.Template as templates;
 ghost use Rattle.rule_types.specs.declared.part.Assignment.{Assignment};
 ghost use Rattle.rule_types.specs.declared.part.Change.TheVariants as change;
 ghost use Rattle.rule_types.specs.declared.roles.AssignOperator.{AssignOperator};

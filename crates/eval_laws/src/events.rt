@@ -7,7 +7,7 @@ ghost use Rattle.text_bytes.specs.declared.profile.Profile.TheVariants.{Manual};
 ghost use Rattle.text_tables.specs.Pairs.{Pair, named, value_of};
 ghost use Rattle.text_tables.specs.Sorted.{NamesRise};
 ghost use Rattle.text_bytes.specs.Text.{Text};
-ghost use Rattle.builtin_knowledge.specs.Knowledge.{Known};
+ghost use Rattle.builtin_devices.specs.Knowledge.{Known};
 ghost use Rattle.rule_laws.specs.Outcomes.{HasLabel};
 ghost use Rattle.rule_types.specs.Rules.{Rule};
 ghost use Rattle.device_core.specs.Values.{EventValue, NumberValue};

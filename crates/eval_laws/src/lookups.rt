@@ -10,8 +10,8 @@ ghost use Rattle.text_tables.specs.Pairs.{Pair, value_of};
 ghost use Rattle.text_core.specs.Fits.{fits};
 ghost use Rattle.text_core.specs.Spell.{spell};
 ghost use Rattle.text_core.specs.declared.item.Item.{Item};
-ghost use Rattle.hwdb_lookup.specs.Query.{query};
-ghost use Rattle.builtin_knowledge.specs.Knowledge.{Known};
+ghost use Rattle.trie_nodes.specs.Query.{query};
+ghost use Rattle.builtin_devices.specs.Knowledge.{Known};
 ghost use Rattle.device_core.specs.Values.{DeviceValue};
 ghost use Rattle.builtin_devices.specs.Devices.{is_of};
 ghost use Rattle.builtin_devices.specs.Numbers.{number_in};
@@ -19,8 +19,8 @@ ghost use Rattle.builtin_devices.specs.declared.numbers.Base.TheVariants.{Hexade
 ghost use Rattle.eval_state.specs.Texts.{or_empty};
 ghost use Rattle.eval_state.specs.declared.state.State.{State};
 ghost use Rattle.eval_commands.specs.Hwdb.{hwdb_of};
-ghost use Rattle.eval_lookups.specs.LookUps.{Candidate, candidate, candidates, counted_properties, found, is_last, texts};
-ghost use Rattle.eval_lookups.specs.UsbModalias.{four_digits, made_up, number_of};
+ghost use Rattle.eval_commands.specs.LookUps.{Candidate, candidate, candidates, counted_properties, found, is_last, texts};
+ghost use Rattle.eval_commands.specs.UsbModalias.{four_digits, made_up, number_of};
 ghost use Rattle.eval_commands.specs.declared.hwdb.Hwdb.{Hwdb};
 ghost use Rattle.eval_laws.specs.LookUps.{HasNoValue, IsFirstAnswer, IsLastValue, texts_of};
 

@@ -15,9 +15,9 @@ ghost use Rattle.rule_types.specs.declared.part.UpMatch.{UpMatch};
 ghost use Rattle.eval_state.specs.Chains.{device_at};
 ghost use Rattle.eval_state.specs.declared.state.State.{State};
 ghost use Rattle.eval_laws.specs.Comparing.{AreOpposite, ComparesAsItIs, ComparesWithoutItsEnd, device_texts, event_texts};
-ghost use Rattle.eval_matching.specs.Holding.{Subject, agrees, holds, one};
-ghost use Rattle.eval_matching.specs.Laws.{IsFirstToMeet, NoneMeets};
-ghost use Rattle.eval_matching.specs.Subjects.{found_place, is_known, plain_subject, up_subject};
+ghost use Rattle.eval_rendering.specs.Holding.{Subject, agrees, holds, one};
+ghost use Rattle.eval_rendering.specs.Laws.{IsFirstToMeet, NoneMeets};
+ghost use Rattle.eval_rendering.specs.Subjects.{found_place, is_known, plain_subject, up_subject};
 
 /// A search finds one device that meets all of the matches, and of several the nearest.
 pub fn one_device_meets_all_matches()

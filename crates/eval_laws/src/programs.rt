@@ -1,8 +1,8 @@
 //! What a PROGRAM leaves. The function here is empty: its contract is the law.
 ghost use Rattle.std.specs.Prelude.{◌≡◌, ◌↔◌, [], true, false};
 ghost use Rattle.text_bytes.specs.Text.{Text};
-ghost use Rattle.builtin_knowledge.specs.Knowledge.{Known};
-ghost use Rattle.rule_templates.specs.Template as templates;
+ghost use Rattle.builtin_devices.specs.Knowledge.{Known};
+ghost use Rattle.rule_tokens.specs.Template as templates;
 ghost use Rattle.rule_types.specs.Rules.{Rule};
 ghost use Rattle.eval_state.specs.declared.scene.Scene.{Scene};
 ghost use Rattle.eval_acts.specs.Acts.{act_step};

@@ -3,9 +3,9 @@ ghost use Rattle.std.specs.Prelude.{◌≡◌, ◌∷◌, ◌++◌, ℕ, All, Li
 ghost use Rattle.std.specs.Prelude.{codes};
 ghost use Rattle.text_bytes.specs.declared.profile.Profile.TheVariants.{Manual, Udev};
 ghost use Rattle.text_bytes.specs.Text.{Text};
-ghost use Rattle.builtin_knowledge.specs.Knowledge.{Known};
-ghost use Rattle.builtin_knowledge.specs.declared.root_files.RootFile.TheVariants.{Absent, Read};
-ghost use Rattle.rule_templates.specs.Template as templates;
+ghost use Rattle.builtin_devices.specs.Knowledge.{Known};
+ghost use Rattle.builtin_devices.specs.declared.root_files.RootFile.TheVariants.{Absent, Read};
+ghost use Rattle.rule_tokens.specs.Template as templates;
 ghost use Rattle.rule_types.specs.declared.part.ActKind.TheVariants as act_kind;
 ghost use Rattle.rule_types.specs.declared.part.Import.TheVariants as import;
 ghost use Rattle.rule_types.specs.Rules.{Rule};

@@ -1,7 +1,7 @@
 //! What making a text safe does, in terms of bytes. Each function here is empty: its contract is the law.
 ghost use Rattle.std.specs.Prelude.{◌≡◌, ◌↔◌, ◌<◌, ℕ, length};
 ghost use Rattle.text_bytes.specs.Text.{Text};
-ghost use Rattle.text_links.specs.Safe.{attribute_marks, link_marks, safe};
+ghost use Rattle.text_bytes.specs.Safe.{attribute_marks, link_marks, safe};
 ghost use Rattle.eval_laws.specs.SafeTexts.{IsMadeSafe, IsSafe};
 
 /// A text that was made safe has only ASCII letters and digits, marks, spaces, backslashes with an `x`

@@ -7,7 +7,7 @@ ghost use Rattle.text_bytes.specs.Text.{Text};
 ghost use Rattle.text_tables.specs.Texts.{AreOnce};
 ghost use Rattle.text_tables.specs.Pairs.{Pair, names, value_of};
 ghost use Rattle.text_tables.specs.Sorted.{by_name};
-ghost use Rattle.builtin_knowledge.specs.Knowledge.{Known};
+ghost use Rattle.builtin_devices.specs.Knowledge.{Known};
 ghost use Rattle.rule_types.specs.Rules.{Rule};
 ghost use Rattle.eval_state.specs.Runs.{RunValue, run_kind};
 ghost use Rattle.eval_state.specs.Texts.{filled};

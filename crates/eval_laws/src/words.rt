@@ -5,7 +5,7 @@ ghost use Rattle.std.specs.List.{join_with_byte};
 ghost use Rattle.text_bytes.specs.Names.{underscore};
 ghost use Rattle.text_bytes.specs.Text.{Text};
 ghost use Rattle.eval_state.specs.Texts.{or_empty};
-ghost use Rattle.text_links.specs.Underscores.{underscored, words};
+ghost use Rattle.text_bytes.specs.Underscores.{underscored, words};
 ghost use Rattle.eval_rendering.specs.Words.{from_word, word_at};
 ghost use Rattle.eval_laws.specs.TextWords.{HasNoWhitespace, HasWords, IsEndFromWord};
 

@@ -1,3 +1,7 @@
+mod Beginnings
+pub mod Finding
+mod Parts
+mod Keys
 pub mod SpacedWords
 pub mod Joining
 pub mod Passing

@@ -4,12 +4,12 @@ use Rattle.std.proofs.lemmas.Bool.Decides.{nat_tests}
 use Rattle.std.proofs.lemmas.List.{append-nil}
 use Rattle.std.specs.List.{list_any}
 use Rattle.text_bytes.specs.Text.{Text}
-use Rattle.rule_templates.specs.Bare.{has_close, is_attribute}
-use Rattle.rule_templates.specs.Reading.{kept, left_of, udev_first}
-use Rattle.rule_templates.specs.declared.piece.Piece.{Piece}
-use Rattle.rule_templates.specs.declared.piece.Piece.TheVariants as piece
-use Rattle.rule_templates.proofs.Bare.{no_attribute}
-use Rattle.rule_templates.proofs.Left.{left_all, left_first, left_stops}
+use Rattle.rule_tokens.specs.Bare.{has_close, is_attribute}
+use Rattle.rule_tokens.specs.TemplateReading.{kept, left_of, udev_first}
+use Rattle.rule_tokens.specs.declared.piece.Piece.{Piece}
+use Rattle.rule_tokens.specs.declared.piece.Piece.TheVariants as piece
+use Rattle.rule_tokens.proofs.Bare.{no_attribute}
+use Rattle.rule_tokens.proofs.Left.{left_all, left_first, left_stops}
 use Rattle.eval_state.specs.declared.state.State.{State}
 use Rattle.eval_rendering.specs.Bounds.{bounded, most_bytes, short}
 use Rattle.eval_rendering.specs.Lengthened.{lengthened}

@@ -1,9 +1,9 @@
 -- Texts as one word.
 use Rattle.std.proofs.Common.{◌≡◌, ℕ, true, false, List, [], ◌∷◌, flat_map}
 use Rattle.text_bytes.specs.Names.{space}
-use Rattle.text_links.specs.Steps.{added}
-use Rattle.text_links.specs.Underscores.{underscored}
-use Rattle.text_links.proofs.JoinedWords.{added_first}
+use Rattle.text_bytes.specs.Steps.{added}
+use Rattle.text_bytes.specs.Underscores.{underscored}
+use Rattle.text_bytes.proofs.JoinedWords.{added_first}
 use Rattle.eval_rendering.specs.Words.{spaced}
 
 -- texts with a space before each are the same word as with one between each two

@@ -1,3 +1,10 @@
+pub mod Beginnings
+pub mod Attributes
+pub mod Holding
+pub mod Laws
+pub mod Borrowed
+pub mod Subjects
+pub mod Udev
 pub mod Pieces
 pub mod Rendering
 pub mod Words

@@ -1,9 +1,9 @@
 -- The name of an attribute that a match asks for, as udev renders it while it compares.
 use Rattle.std.specs.Prelude.{[], flat_map}
 use Rattle.text_bytes.specs.Text.{Text}
-use Rattle.rule_templates.specs.Reading.{left_of}
-use Rattle.rule_templates.specs.declared.piece.Piece.{Piece}
-use Rattle.rule_templates.specs.declared.piece.Piece.TheVariants as piece
+use Rattle.rule_tokens.specs.TemplateReading.{left_of}
+use Rattle.rule_tokens.specs.declared.piece.Piece.{Piece}
+use Rattle.rule_tokens.specs.declared.piece.Piece.TheVariants as piece
 use Rattle.eval_state.specs.declared.state.State.{State}
 use Rattle.eval_rendering.specs.Pieces.{piece_text}
 

@@ -10,11 +10,11 @@ use Rattle.text_bytes.specs.declared.profile.Profile.TheVariants.{Manual, Udev}
 use Rattle.text_bytes.specs.Text.{Text}
 use Rattle.text_tables.specs.Texts.{same_text}
 use Rattle.text_tables.specs.Pairs.{value_of}
-use Rattle.text_links.specs.Kernels.{longest_end}
-use Rattle.text_links.specs.Safe.{attribute_marks, safe}
+use Rattle.text_bytes.specs.Kernels.{longest_end}
+use Rattle.text_bytes.specs.Safe.{attribute_marks, safe}
 use Rattle.device_core.specs.Values.{DeviceValue, EventValue}
-use Rattle.rule_templates.specs.declared.piece.Piece.{Piece}
-use Rattle.rule_templates.specs.declared.piece.Piece.TheVariants as piece
+use Rattle.rule_tokens.specs.declared.piece.Piece.{Piece}
+use Rattle.rule_tokens.specs.declared.piece.Piece.TheVariants as piece
 use Rattle.eval_state.specs.Texts.{or_empty}
 use Rattle.eval_state.specs.Chains.{device_at, kernel_of}
 use Rattle.eval_state.specs.Named.{NamedValue, named, named_place}

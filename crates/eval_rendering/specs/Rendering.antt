@@ -1,12 +1,12 @@
 -- A template with its substitutions made.
 use Rattle.std.specs.Prelude.{Bool, true, false, not, if◌then◌else◌, flat_map, Option, Some, None}
 use Rattle.text_bytes.specs.Text.{Text}
-use Rattle.text_links.specs.Safe.{link_marks, safe}
-use Rattle.text_links.specs.Underscores.{underscored}
-use Rattle.rule_templates.specs.Reading.{left_of}
-use Rattle.rule_templates.specs.Template.{Parts as Template}
-use Rattle.rule_templates.specs.declared.piece.Piece.{Piece}
-use Rattle.rule_templates.specs.declared.piece.Piece.TheVariants as piece
+use Rattle.text_bytes.specs.Safe.{link_marks, safe}
+use Rattle.text_bytes.specs.Underscores.{underscored}
+use Rattle.rule_tokens.specs.TemplateReading.{left_of}
+use Rattle.rule_tokens.specs.Template.{Parts as Template}
+use Rattle.rule_tokens.specs.declared.piece.Piece.{Piece}
+use Rattle.rule_tokens.specs.declared.piece.Piece.TheVariants as piece
 use Rattle.eval_state.specs.declared.state.State.{State}
 use Rattle.eval_rendering.specs.Bounds.{bounded}
 use Rattle.eval_rendering.specs.Pieces.{has_long, piece_text}

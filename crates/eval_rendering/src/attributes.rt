@@ -15,7 +15,7 @@ use crate::bounds::MAX_VALUE_BYTES;
 use crate::paths::read_value;
 use device_core::Device;
 use eval_state::{Named, State};
-use rule_templates::{Piece, Template};
+use rule_tokens::{Piece, Template};
 use text_bytes::Profile;
 
 /// The device that is selected.

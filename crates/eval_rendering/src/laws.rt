@@ -6,7 +6,7 @@ ghost use Rattle.text_tables.specs.Pairs.{value_of};
 ghost use Rattle.text_bytes.specs.Text.{Text};
 ghost use Rattle.text_tables.specs.Texts.{same_text};
 ghost use Rattle.device_core.specs.Values.{DeviceValue, EventValue};
-ghost use Rattle.rule_templates.specs.Bare.{has_close};
+ghost use Rattle.rule_tokens.specs.Bare.{has_close};
 ghost use Rattle.eval_state.specs.Laws.{with_folders};
 ghost use Rattle.eval_state.specs.declared.state.State.{State};
 ghost use Rattle.eval_rendering.specs.Behind.{linked_device, rest_behind};

@@ -3,7 +3,7 @@
 //! A match takes no memory, so such a name is put together in room of its own.
 ghost use Rattle.std.specs.Prelude.{◌≡◌, option_map};
 ghost use Rattle.std.specs.Option.{option_and_then};
-ghost use Rattle.rule_templates.specs.Cuts.{copied};
+ghost use Rattle.rule_tokens.specs.Cuts.{copied};
 ghost use Rattle.eval_state.specs.Chains.{kernel_of};
 ghost use Rattle.eval_state.specs.Start.{node_path};
 ghost use Rattle.eval_state.specs.Texts.{or_empty};
@@ -16,7 +16,7 @@ use crate::pieces::{major, minor, name, parent_node};
 use crate::short_name::ShortName;
 use crate::words::{from_word, number_as, word_at};
 use eval_state::State;
-use rule_templates::{Cut, Piece, kept};
+use rule_tokens::{Cut, Piece, kept};
 
 /// The kernel's name of the device at the place that is selected, empty if none is.
 fn kernel_at<'s>(state: &'s State<'_>, selected: Option<usize>) -> &'s [u8]

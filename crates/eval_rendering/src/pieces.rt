@@ -10,17 +10,16 @@ ghost use Rattle.eval_state.specs.Texts.{or_empty};
 ghost use Rattle.eval_rendering.specs.Bounds.{bounded, joined};
 ghost use Rattle.eval_rendering.specs.Pieces.{own_name, parent_node, piece_text, selected_device};
 ghost use Rattle.eval_rendering.specs.Shown.{shown};
-ghost use Rattle.text_links.specs.Underscores.{underscored};
+ghost use Rattle.text_bytes.specs.Underscores.{underscored};
 
 use crate::attributes::{attribute_as, selected_device};
 use crate::bounded_text::BoundedText;
 use crate::spaced_words::spaced_word;
 use crate::words::{from_word, number_as, word_at};
 use eval_state::{State, node_path};
-use rule_templates::Piece;
+use rule_tokens::Piece;
 use std::alloc::{AllocError, Global};
-use text_bytes::{Profile, trimmed};
-use text_links::{attribute_safe, underscored};
+use text_bytes::{Profile, attribute_safe, trimmed, underscored};
 
 /// The text of a piece.
 #[derive(Drop)]

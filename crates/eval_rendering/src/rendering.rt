@@ -8,10 +8,9 @@ use crate::bounded_text::BoundedText;
 use crate::pieces::piece_text;
 use crate::rendered::{Mode, Rendered};
 use eval_state::State;
-use rule_templates::{Piece, Template};
+use rule_tokens::{Piece, Template};
 use std::alloc::{AllocError, Global};
-use text_bytes::{Bytes, Profile};
-use text_links::link_safe;
+use text_bytes::{Bytes, Profile, link_safe};
 
 /// Whether a piece is put into a link as it is.
 fn is_raw(piece: &Piece) -> bool

@@ -6,9 +6,8 @@ ghost use Rattle.text_bytes.specs.Texts.{skip_while};
 ghost use Rattle.eval_rendering.specs.Pieces.{number_as};
 ghost use Rattle.eval_rendering.specs.Words.{from_word, word_at, word_len};
 
-use rule_templates::leading_whitespace;
-use text_bytes::{Profile, is_whitespace};
-use text_links::last_digits;
+use rule_tokens::leading_whitespace;
+use text_bytes::{Profile, is_whitespace, last_digits};
 
 /// How many bytes the word at the start of a text has.
 fn word_len(text: &[u8]) -> usize

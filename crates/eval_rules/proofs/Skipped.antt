@@ -6,7 +6,7 @@ use Rattle.text_bytes.specs.Texts.{begins_with}
 use Rattle.text_bytes.specs.declared.profile.Profile.{Profile}
 use Rattle.text_bytes.specs.declared.profile.Profile.TheVariants.{Manual, Udev}
 use Rattle.text_bytes.specs.Text.{Text}
-use Rattle.builtin_knowledge.specs.Knowledge.{Known}
+use Rattle.builtin_devices.specs.Knowledge.{Known}
 use Rattle.device_core.specs.Values.{EventValue, NumberValue}
 use Rattle.rule_types.specs.Written.{attribute_of_target, key_of_target}
 use Rattle.rule_types.specs.declared.roles.PlainKey.{PlainKey}
@@ -29,8 +29,8 @@ use Rattle.eval_rendering.specs.Bounds.{within}
 use Rattle.eval_rendering.specs.Rendering.{render}
 use Rattle.eval_rendering.specs.declared.rendered.Rendered.{Rendered}
 use Rattle.eval_rendering.specs.declared.rendered.Rendered.TheVariants as rendered
-use Rattle.eval_matching.specs.Attributes.{is_not_read}
-use Rattle.eval_matching.specs.Subjects.{is_not_given}
+use Rattle.eval_rendering.specs.Attributes.{is_not_read}
+use Rattle.eval_rendering.specs.Subjects.{is_not_given}
 use Rattle.eval_state.specs.Places.{is_there, place_of}
 use Rattle.eval_state.specs.Named.{NamedValue, named, named_place}
 use Rattle.eval_state.specs.Notes.{word_of_key}

@@ -1,7 +1,7 @@
 -- What an event says of itself stays, whatever rules do.
 use Rattle.std.proofs.Common.{Bool, true, false, cond, List, [], ◌∷◌, refl, ◌∙◌}
 use Rattle.std.specs.List.{fold}
-use Rattle.builtin_knowledge.specs.Knowledge.{Known}
+use Rattle.builtin_devices.specs.Knowledge.{Known}
 use Rattle.rule_types.specs.declared.roles.PlainKey.{PlainKey}
 use Rattle.rule_types.specs.declared.roles.PlainKey.TheVariants as plain
 use Rattle.rule_types.specs.declared.part.Act.{Act}
@@ -10,8 +10,8 @@ use Rattle.rule_types.specs.declared.part.Comparison.{Comparison}
 use Rattle.rule_types.specs.declared.part.PlainMatch.{PlainMatch}
 use Rattle.rule_types.specs.declared.part.UpMatch.{UpMatch}
 use Rattle.rule_types.specs.Rules.{Rule}
-use Rattle.eval_matching.specs.Attributes.{is_not_read}
-use Rattle.eval_matching.specs.Subjects.{is_not_given}
+use Rattle.eval_rendering.specs.Attributes.{is_not_read}
+use Rattle.eval_rendering.specs.Subjects.{is_not_given}
 use Rattle.eval_state.specs.Scenes.{noted}
 use Rattle.eval_state.specs.declared.note_kind.NoteKind.TheVariants.{AttributeNotRead, ConstantNotGiven}
 use Rattle.eval_state.specs.declared.scene.Scene.{Scene}

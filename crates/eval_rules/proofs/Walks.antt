@@ -3,7 +3,7 @@ use Rattle.std.proofs.Common.{◌≡◌, ℕ, ◌+◌, ◌<◌, ◌≤◌, Bool,
 use Rattle.std.specs.List.{list_all}
 use Rattle.std.proofs.lemmas.List.{drop_more, drop_all}
 use Rattle.rule_types.specs.declared.part.Comparison.{Comparison}
-use Rattle.eval_matching.specs.Holding.{holds, one}
+use Rattle.eval_rendering.specs.Holding.{holds, one}
 use Rattle.eval_state.specs.declared.scene.Scene.{Scene}
 use Rattle.eval_rules.specs.Steps.{if_proceeding, result_step, walk}
 

@@ -4,9 +4,9 @@ use Rattle.std.specs.List.{list_all}
 use Rattle.rule_types.specs.declared.part.UpMatch.{UpMatch}
 use Rattle.rule_types.specs.Rules.{Rule}
 use Rattle.eval_state.specs.declared.state.State.{State}
-use Rattle.eval_matching.specs.Holding.{holds}
-use Rattle.eval_matching.specs.Laws.{IsFirstToMeet}
-use Rattle.eval_matching.specs.Subjects.{plain_subject}
+use Rattle.eval_rendering.specs.Holding.{holds}
+use Rattle.eval_rendering.specs.Laws.{IsFirstToMeet}
+use Rattle.eval_rendering.specs.Subjects.{plain_subject}
 use Rattle.eval_state.specs.declared.scene.Scene.{Scene}
 use Rattle.eval_rules.specs.declared.outcome.Outcome.{Outcome}
 

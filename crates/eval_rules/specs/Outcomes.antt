@@ -1,7 +1,7 @@
 -- The outcome of an event.
 use Rattle.std.specs.Prelude.{List, [], ◌∷◌, ◌++◌, map, option_map, flat_map}
 use Rattle.text_tables.specs.Sorted.{by_name}
-use Rattle.builtin_knowledge.specs.Knowledge.{Known}
+use Rattle.builtin_devices.specs.Knowledge.{Known}
 use Rattle.rule_types.specs.Names.{run_name}
 use Rattle.rule_types.specs.declared.keys.Key.TheVariants as key
 use Rattle.rule_types.specs.Rules.{Rule}

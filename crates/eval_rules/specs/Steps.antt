@@ -1,13 +1,13 @@
 -- One rule, step by step.
 use Rattle.std.specs.Prelude.{ℕ, Bool, true, false, if◌then◌else◌, is_some, List, [], ◌∷◌, Option, fold}
-use Rattle.builtin_knowledge.specs.Knowledge.{Known}
+use Rattle.builtin_devices.specs.Knowledge.{Known}
 use Rattle.rule_types.specs.declared.part.Comparison.{Comparison}
 use Rattle.rule_types.specs.declared.part.PlainMatch.{PlainMatch}
 use Rattle.rule_types.specs.declared.part.UpMatch.{UpMatch}
 use Rattle.rule_types.specs.Rules.{Rule}
 use Rattle.eval_state.specs.declared.state.State.{State}
-use Rattle.eval_matching.specs.Holding.{holds, one}
-use Rattle.eval_matching.specs.Subjects.{found_place, plain_subject}
+use Rattle.eval_rendering.specs.Holding.{holds, one}
+use Rattle.eval_rendering.specs.Subjects.{found_place, plain_subject}
 use Rattle.eval_state.specs.declared.scene.Scene.{Scene}
 use Rattle.eval_acts.specs.Acts.{act_step}
 use Rattle.eval_acts.specs.Reaching.{match_reached}

@@ -9,7 +9,7 @@ ghost use Rattle.eval_rules.specs.Inner.{made_from, unselected, with_notes};
 
 use crate::outcome::{Command, Commands, Outcome};
 use crate::rules::run;
-use builtin_knowledge::Knowledge;
+use builtin_devices::Knowledge;
 use device_core::Event;
 use eval_rendering::{Mode, Rendered, render};
 use eval_state::{MadeRun, Run, Runs, Scene, State};

@@ -10,7 +10,7 @@ ghost use Rattle.eval_rules.specs.Watched.{run_watched};
 
 use crate::steps::apply_watched;
 use crate::watch::{Moment, Watch};
-use builtin_knowledge::Knowledge;
+use builtin_devices::Knowledge;
 use eval_state::Scene;
 use rule_types::Rule;
 use std::alloc::{AllocError, Global};

@@ -11,9 +11,9 @@ ghost use Rattle.eval_rules.specs.Watched.{searching, skip_told, skipped_watched
 
 use crate::idle::{is_idle, note_all};
 use crate::watch::{Moment, Watch};
-use builtin_knowledge::Knowledge;
+use builtin_devices::Knowledge;
 use eval_acts::match_reached;
-use eval_matching::{found_place, plain_holds, result_holds};
+use eval_rendering::{found_place, plain_holds, result_holds};
 use eval_state::Scene;
 use rule_types::{Act, Comparison, PlainMatch, Rule, UpMatch};
 use std::alloc::{AllocError, Global};

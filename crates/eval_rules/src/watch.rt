@@ -6,7 +6,7 @@ ghost use Rattle.eval_state.specs.declared.scene.Scene as scenes;
 ghost use Rattle.eval_rules.specs.Moments.{happening};
 ghost use Rattle.eval_rules.specs.Watched as watched;
 
-use builtin_knowledge::Knowledge;
+use builtin_devices::Knowledge;
 use eval_acts::act_step;
 use eval_assignments::set_all;
 use eval_state::Scene;

@@ -6,9 +6,9 @@ use Rattle.text_bytes.specs.declared.profile.Profile.TheVariants.{Manual, Udev}
 use Rattle.text_bytes.specs.Names.{dollar, percent}
 use Rattle.text_bytes.specs.Text.{Text}
 use Rattle.text_bytes.specs.Texts.{skip_while}
-use Rattle.rule_templates.specs.Substituted.{has_sign}
-use Rattle.rule_templates.specs.Reading.{FirstPiece, is_no_sign, kept, left_of, left_within, plain_first, udev_first, with_kept}
-use Rattle.rule_templates.specs.declared.piece.Piece.{Piece}
+use Rattle.rule_tokens.specs.Substituted.{has_sign}
+use Rattle.rule_tokens.specs.TemplateReading.{FirstPiece, is_no_sign, kept, left_of, left_within, plain_first, udev_first, with_kept}
+use Rattle.rule_tokens.specs.declared.piece.Piece.{Piece}
 use Rattle.eval_state.specs.declared.state.State.{State}
 use Rattle.eval_rendering.specs.Bounds.{bounded}
 use Rattle.eval_rendering.specs.Pieces.{has_long, is_long, piece_text}

@@ -9,7 +9,7 @@ ghost use Rattle.eval_sources.specs.Reported.{commands_over, event_commands, sta
 use crate::commands::{SourcedCommand, add_made, sourced_commands};
 use crate::reporting::Keeper;
 use crate::sources::Sources;
-use builtin_knowledge::Knowledge;
+use builtin_devices::Knowledge;
 use device_core::Event;
 use eval_rules::{Outcome, finish, run_watched};
 use eval_state::Scene;

@@ -7,7 +7,7 @@ ghost use Rattle.eval_sources.specs.Touched.{sizes};
 use crate::look_ups::found_after;
 use crate::sources::Sources;
 use crate::touched::{Sizes, changes_more};
-use builtin_knowledge::Knowledge;
+use builtin_devices::Knowledge;
 use eval_acts::act_step;
 use eval_assignments::set_all;
 use eval_effects::items_of;

@@ -8,7 +8,7 @@ ghost use Rattle.std.specs.List.{list_any};
 ghost use Rattle.eval_sources.specs.Touched as names;
 
 use eval_state::Scene;
-use rule_templates::has_sign;
+use rule_tokens::has_sign;
 use rule_types::{AssignOperator, Assignment, Change, Rule, Target};
 use text_bytes::Profile;
 

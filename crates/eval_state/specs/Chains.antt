@@ -2,7 +2,7 @@
 use Rattle.std.specs.Prelude.{ℕ, Option, slice_get}
 use Rattle.text_bytes.specs.Text.{Text}
 use Rattle.device_core.specs.Values.{DeviceValue, EventValue, chain}
-use Rattle.text_links.specs.Kernels.{kernel_name}
+use Rattle.text_bytes.specs.Kernels.{kernel_name}
 
 -- the kernel's name of a device
 abbrev pub kernel_of : DeviceValue → Text

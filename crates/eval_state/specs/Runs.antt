@@ -7,7 +7,7 @@ use Rattle.rule_types.specs.declared.roles.AssignOperator.{AssignOperator}
 use Rattle.rule_types.specs.declared.roles.AssignOperator.TheVariants.{Add}
 use Rattle.rule_types.specs.declared.types.RunType.{RunType}
 use Rattle.rule_types.specs.declared.types.RunType.TheVariants.{Program, Builtin}
-use Rattle.rule_templates.specs.Template.{Parts as Template}
+use Rattle.rule_tokens.specs.Template.{Parts as Template}
 use Rattle.rule_types.specs.Rules.{Rule}
 
 -- a RUN as it is written: its rule, the type in its braces, if it has any, its command, and the place of the device that

@@ -5,8 +5,7 @@ ghost use Rattle.eval_state.specs.Chains.{device_at, kernel_of};
 use device_core::{Device, Event};
 use std::alloc::{AllocError, Global};
 use std::marker::Model;
-use text_bytes::Bytes;
-use text_links::kernel_name;
+use text_bytes::{Bytes, kernel_name};
 
 /// A borrowed event, with the kernel's names of its devices prepared.
 #[derive(Drop)]

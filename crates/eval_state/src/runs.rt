@@ -11,7 +11,7 @@ ghost use Rattle.eval_state.specs.Runs.{run_kind, runs_after, same_kind, same_ru
 ghost use Rattle.eval_state.specs.Sameness.{runs_equal, runs_equal_in_part, same_runs_fed};
 
 use indexmap::IndexSet;
-use rule_templates::Template;
+use rule_tokens::Template;
 use rule_types::{AssignOperator, Rule, RunType};
 use std::alloc::{AllocError, Global};
 use std::hash::{Hash, Hasher};

@@ -1,6 +1,6 @@
 -- Texts that are rendered only for a device with a number, and those that always are.
 use Rattle.std.proofs.Common.{◌≡◌, Bool, true, false, not, cond, List, [], Option, Some, None, is_some, ap}
-use Rattle.rule_templates.specs.declared.piece.Piece.{Piece}
+use Rattle.rule_tokens.specs.declared.piece.Piece.{Piece}
 use Rattle.device_core.specs.Values.{NumberValue}
 
 module _ (lacks : Option NumberValue → Bool) (pieces : List Piece) where

@@ -7,8 +7,8 @@ use Rattle.text_bytes.specs.Texts.{begins_with}
 use Rattle.text_bytes.specs.declared.profile.Profile.{Profile}
 use Rattle.text_bytes.specs.declared.profile.Profile.TheVariants.{Manual, Udev}
 use Rattle.text_bytes.specs.Text.{Text}
-use Rattle.rule_templates.specs.declared.piece.Piece.{Piece}
-use Rattle.rule_templates.specs.declared.piece.Piece.TheVariants as piece
+use Rattle.rule_tokens.specs.declared.piece.Piece.{Piece}
+use Rattle.rule_tokens.specs.declared.piece.Piece.TheVariants as piece
 use Rattle.rule_types.specs.declared.part.Assignment.{Assignment}
 use Rattle.rule_types.specs.declared.part.Change.{Change}
 use Rattle.rule_types.specs.declared.part.Change.TheVariants as change
@@ -17,7 +17,7 @@ use Rattle.rule_types.specs.declared.roles.UpKey.{UpKey}
 use Rattle.rule_types.specs.declared.roles.UpKey.TheVariants as up
 use Rattle.rule_types.specs.Rules.{Rule}
 use Rattle.device_core.specs.Values.{DeviceValue, EventValue}
-use Rattle.builtin_knowledge.specs.Knowledge.{Known}
+use Rattle.builtin_devices.specs.Knowledge.{Known}
 use Rattle.eval_state.specs.Scenes.{start}
 use Rattle.eval_state.specs.declared.notes.Note.{Note}
 use Rattle.eval_state.specs.declared.scene.Scene.{Scene}
@@ -27,9 +27,9 @@ use Rattle.eval_rendering.proofs.Telling.{told_name}
 use Rattle.eval_state.specs.Chains.{device_at}
 use Rattle.eval_state.specs.Named.{named}
 use Rattle.eval_state.specs.declared.state.State.{State}
-use Rattle.eval_matching.specs.Attributes.{attribute_by, is_not_read, is_elsewhere, is_not_read_by, is_unknown, is_untold_at, written_value, own_attribute, sought, told_subject, udev_subject}
-use Rattle.eval_matching.specs.Holding.{udev_unread}
-use Rattle.eval_matching.specs.Subjects.{found_place, holds_at, tried, up_subject}
+use Rattle.eval_rendering.specs.Attributes.{attribute_by, is_not_read, is_elsewhere, is_not_read_by, is_unknown, is_untold_at, written_value, own_attribute, sought, told_subject, udev_subject}
+use Rattle.eval_rendering.specs.Holding.{udev_unread}
+use Rattle.eval_rendering.specs.Subjects.{found_place, holds_at, tried, up_subject}
 use Rattle.eval_acts.specs.Unread.{first_unread, unread_in, unread_notes}
 use Rattle.eval_assignments.specs.Finality.{final_key, is_settled}
 use Rattle.eval_assignments.specs.Steps.{set_step}

@@ -1,8 +1,8 @@
 -- Rules that ask for attributes of which a block may tell nothing: the only ones whose searches and assignments can leave notes.
 use Rattle.std.specs.Prelude.{Bool, false, ◌||◌, List, []}
 use Rattle.std.specs.List.{list_any}
-use Rattle.rule_templates.specs.declared.piece.Piece.{Piece}
-use Rattle.rule_templates.specs.declared.piece.Piece.TheVariants as piece
+use Rattle.rule_tokens.specs.declared.piece.Piece.{Piece}
+use Rattle.rule_tokens.specs.declared.piece.Piece.TheVariants as piece
 use Rattle.rule_types.specs.declared.part.Change.{Change}
 use Rattle.rule_types.specs.declared.part.Change.TheVariants as change
 use Rattle.rule_types.specs.declared.roles.UpKey.{UpKey}

@@ -3,7 +3,7 @@
 use Rattle.std.specs.Prelude.{ℕ, Bool, not, if◌then◌else◌, is_some, List, [], ◌∷◌, ◌++◌, length, Option, Some, None, option_to_list, position}
 use Rattle.std.specs.List.{find, range_with_len}
 use Rattle.std.specs.Option.{option_and_then}
-use Rattle.rule_templates.specs.declared.piece.Piece.{Piece}
+use Rattle.rule_tokens.specs.declared.piece.Piece.{Piece}
 use Rattle.text_bytes.specs.declared.profile.Profile.{Profile}
 use Rattle.text_bytes.specs.declared.profile.Profile.TheVariants.{Manual, Udev}
 use Rattle.text_bytes.specs.Text.{Text}
@@ -17,13 +17,13 @@ use Rattle.rule_types.specs.declared.roles.UpKey.{UpKey}
 use Rattle.rule_types.specs.declared.roles.UpKey.TheVariants as up
 use Rattle.rule_types.specs.Rules.{Rule}
 use Rattle.device_core.specs.Values.{DeviceValue, EventValue, chain}
-use Rattle.builtin_knowledge.specs.Knowledge.{Known}
+use Rattle.builtin_devices.specs.Knowledge.{Known}
 use Rattle.eval_state.specs.Scenes.{start}
 use Rattle.eval_state.specs.declared.notes.Note.{Note}
 use Rattle.eval_state.specs.declared.scene.Scene.{Scene}
 use Rattle.eval_state.specs.declared.state.State.{State}
-use Rattle.eval_matching.specs.Holding.{Subject, udev_unread}
-use Rattle.eval_matching.specs.Subjects.{found_place, holds_at, up_subject}
+use Rattle.eval_rendering.specs.Holding.{Subject, udev_unread}
+use Rattle.eval_rendering.specs.Subjects.{found_place, holds_at, up_subject}
 use Rattle.eval_acts.specs.Unread.{first_unread, unread_notes}
 use Rattle.eval_assignments.specs.Finality.{final_key, is_settled}
 use Rattle.eval_assignments.specs.Names.{is_interface}

@@ -1,14 +1,14 @@
 //! The first attribute that a search or an assignment asks for and that is not read.
 ghost use Rattle.std.specs.Prelude.{◌≡◌, option_map};
-ghost use Rattle.eval_matching.specs.Subjects.{up_subject};
+ghost use Rattle.eval_rendering.specs.Subjects.{up_subject};
 ghost use Rattle.eval_unread.specs.Unread.{is_rendered_for, name_unread, rendered_pieces, search_unread, unread_at, unread_of, unread_place};
 
 use device_core::Device;
 use eval_acts::first_unread;
 use eval_assignments::{final_key, is_interface, is_settled, lacks_number};
-use eval_matching::{Attribute, attribute_at, found_place, holds_at};
+use eval_rendering::{Attribute, attribute_at, found_place, holds_at};
 use eval_state::{Scene, State};
-use rule_templates::Piece;
+use rule_tokens::Piece;
 use rule_types::{Assignment, Change, Target, UpKey, UpMatch};
 
 /// The name that a match of one device asks for at a place of the chain, if it looks at an attribute that is not read.

@@ -5,7 +5,7 @@ ghost use Rattle.eval_unread.specs.Given.{is_of_others};
 ghost use Rattle.eval_unread.specs.Others.{ask_others, change_asks, piece_asks, pieces_of, rule_asks, up_asks};
 
 use eval_rendering::may_be_untold;
-use rule_templates::Piece;
+use rule_tokens::Piece;
 use rule_types::{Assignment, Change, Rule, UpKey};
 use text_bytes::begins_with;
 

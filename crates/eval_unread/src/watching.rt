@@ -5,7 +5,7 @@ ghost use Rattle.eval_unread.specs.Unread.{rules_unread};
 
 use crate::asked::search_unread;
 use crate::sets::{note_name, set_each};
-use builtin_knowledge::Knowledge;
+use builtin_devices::Knowledge;
 use device_core::Event;
 use eval_acts::act_step;
 use eval_rules::{Moment, Watch, run_watched};

@@ -7,7 +7,7 @@ ghost use Rattle.eval_unread.specs.Unread.{completed, rules_unread, unread, whol
 use crate::given::with_not_given;
 use crate::kernel_modes::with_kernel_mode;
 use crate::watching::noted_after;
-use builtin_knowledge::Knowledge;
+use builtin_devices::Knowledge;
 use device_core::Event;
 use eval_rules::{Outcome, evaluate_plain};
 use eval_state::Notes;

@@ -13,13 +13,13 @@ use Rattle.link_files.specs.Files as links
 use Rattle.rule_core.specs.Ends.{file_as_read}
 use Rattle.rule_core.specs.Rules.{set_of_as}
 use Rattle.rule_remarks.specs.Findings.{findings_as}
-use Rattle.engine_ends.specs.Delivery.{RunOutcome}
-use Rattle.engine_ends.specs.Kinds.{names_files_of}
-use Rattle.engine_ends.specs.declared.line.Format.{Format}
-use Rattle.engine_ends.specs.declared.line.Line.{Line}
+use Rattle.engine_sessions.specs.Delivery.{RunOutcome}
+use Rattle.engine_sessions.specs.Kinds.{names_files_of}
+use Rattle.engine_sessions.specs.declared.line.Format.{Format}
+use Rattle.engine_sessions.specs.declared.line.Line.{Line}
 use Rattle.engine_reports.specs.Checks.{files_said}
 use Rattle.engine_reports.specs.Outcomes.{database_outcome, hold_few_tokens, too_many_rules}
-use Rattle.trie_core.specs.Image.{image}
+use Rattle.trie_build.specs.Image.{image}
 use Rattle.engine_formats.specs.Diagnostics.{DiagnosticValue}
 use Rattle.engine_formats.specs.Formats.{formatted}
 use Rattle.engine_formats.specs.Paths.{path_in_folder}

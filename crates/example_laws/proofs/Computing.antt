@@ -5,11 +5,11 @@ use Rattle.std.specs.Char.{encode_utf8}
 use Rattle.std.specs.Fmt.{digits}
 use Rattle.std.specs.Str.{chars, is_utf8}
 use Rattle.json.specs.Print.{escape_byte, print_from}
-use Rattle.rule_templates.specs.Braces.{braced}
-use Rattle.rule_templates.specs.Integers.{size_in, marked, signed, signed_size, integer_of, natural_of}
-use Rattle.rule_templates.specs.Number.{word_of, udev_word_of}
-use Rattle.rule_templates.specs.Reading.{result_piece, argument_of, asked_with, udev_asked, first_at, udev_first, udev_pieces, is_faulty, left_of}
-use Rattle.rule_templates.specs.Reading as rule_templates_reading
+use Rattle.rule_tokens.specs.Braces.{braced}
+use Rattle.rule_tokens.specs.Integers.{size_in, marked, signed, signed_size, integer_of, natural_of}
+use Rattle.rule_tokens.specs.Number.{word_of, udev_word_of}
+use Rattle.rule_tokens.specs.TemplateReading.{result_piece, argument_of, asked_with, udev_asked, first_at, udev_first, udev_pieces, is_faulty, left_of}
+use Rattle.rule_tokens.specs.TemplateReading as rule_templates_reading
 use Rattle.rule_tokens.specs.Grammar.{prefix_quote}
 use Rattle.rule_tokens.specs.Lines.{items_after, items_within, items_left}
 use Rattle.rule_tokens.specs.Prefixes.{quoted_at, letters_at}
@@ -22,7 +22,7 @@ use Rattle.rule_types.specs.Operators as rule_types_operators
 use Rattle.rule_types.specs.Roles as rule_types_roles
 use Rattle.rule_types.specs.Rules.{rule_tokens}
 use Rattle.rule_types.specs.Topics.{mode_of, topic_of}
-use Rattle.rule_jumps.specs.Jumps.{landings}
+use Rattle.rule_types.specs.Jumps.{landings}
 use Rattle.rule_parts.specs.Options.{priority_of, level_of, option_of}
 use Rattle.rule_parts.specs.Options as rule_parts_options
 use Rattle.rule_parts.specs.Parts.{comparison, import_by, part_by, value_part, part_of}
@@ -39,10 +39,10 @@ use Rattle.device_core.specs.Lines.{kind_of, row_of, begins_answer}
 use Rattle.device_core.specs.Parts.{pair_of, number_below, answer_of, is_device_path, is_parent_path}
 use Rattle.device_core.specs.Parts as device_core_parts
 use Rattle.device_core.specs.RunBlocks.{line_of_excess}
-use Rattle.device_notes.specs.Notes.{block_notes}
-use Rattle.device_notes.specs.Tried.{lacks_event}
+use Rattle.device_core.specs.Notes.{block_notes}
+use Rattle.device_core.specs.Tried.{lacks_event}
 use Rattle.hwdb_core.specs.Sources.{are_few}
-use Rattle.hwdb_lints.specs.Lints.{database_lints}
+use Rattle.hwdb_core.specs.Lints.{database_lints}
 use Rattle.link_files.specs.Booleans.{is_no, is_yes}
 use Rattle.link_files.specs.Files.{is_drop_in, link_file, link_files, listed_path}
 use Rattle.link_files.specs.Lines.{is_comment, joined_from, stripped}
@@ -50,10 +50,10 @@ use Rattle.link_files.specs.Lists.{is_list, last_of, list_of, texts_of, with_tex
 use Rattle.link_files.specs.Names.{is_interface_name}
 use Rattle.link_files.specs.Settings.{section_of, with_file, with_line}
 use Rattle.link_files.specs.Words.{is_whole, split, split_byte, words_of as link_words_of}
-use Rattle.link_lints.specs.Faults.{file_faults, line_faults, section_after}
-use Rattle.link_lints.specs.Joined.{joined_after, joined_lines}
-use Rattle.link_lints.specs.Keys.{form_of as link_form_of}
-use Rattle.link_lints.specs.Matching.{asks_address, asks_machine, asks_name, asks_system, link_faults}
+use Rattle.link_files.specs.Faults.{file_faults, line_faults, section_after}
+use Rattle.link_files.specs.Joined.{joined_after, joined_lines}
+use Rattle.link_files.specs.Keys.{form_of as link_form_of}
+use Rattle.link_files.specs.Matching.{asks_something, link_faults}
 use Rattle.builtin_devices.specs.Numbers.{digits_in, is_below_zero, name_number, number_in, written}
 use Rattle.builtin_link.specs.Checks.{address_check, checks_of, kind_checks, kind_check, known_check, name_checks, permanent_address, property_check, text_check}
 use Rattle.builtin_link.specs.Globs.{passes}
@@ -71,9 +71,9 @@ use Rattle.text_core.specs.Sets.{bits_of, set_of}
 use Rattle.text_core.specs.Spell.{bracket, first_item, spell_by, spell, spell_blind}
 use Rattle.text_json.specs.Told.{told_text}
 use Rattle.text_json.specs.Values.{value_line}
-use Rattle.text_links.specs.Kernels.{kernel_name}
-use Rattle.text_links.specs.Safe.{sequence_len, is_reached, is_hex_escape, stays, safe_byte, safe}
-use Rattle.text_links.specs.Underscores.{underscored}
+use Rattle.text_bytes.specs.Kernels.{kernel_name}
+use Rattle.text_bytes.specs.Safe.{sequence_len, is_reached, is_hex_escape, stays, safe_byte, safe}
+use Rattle.text_bytes.specs.Underscores.{underscored}
 use Rattle.eval_state.specs.Files.{star_place}
 use Rattle.eval_state.specs.Named.{named, named_place}
 use Rattle.eval_state.specs.Start.{start_env}
@@ -81,20 +81,20 @@ use Rattle.eval_rendering.specs.Names.{name_text}
 use Rattle.eval_rendering.specs.Behind.{place_above}
 use Rattle.eval_rendering.specs.Paths.{is_unread, led_place}
 use Rattle.eval_rendering.specs.Rendering.{render}
-use Rattle.eval_matching.specs.Attributes.{udev_value, is_not_read, udev_subject}
-use Rattle.eval_matching.specs.Holding.{holds}
-use Rattle.eval_matching.specs.Subjects.{holds_at, found_place, is_not_given}
+use Rattle.eval_rendering.specs.Attributes.{udev_value, is_not_read, udev_subject}
+use Rattle.eval_rendering.specs.Holding.{holds}
+use Rattle.eval_rendering.specs.Subjects.{holds_at, found_place, is_not_given}
 use Rattle.eval_commands.specs.Cmdline.{cmdline_value}
 use Rattle.eval_commands.specs.Hwdb.{hwdb_of}
 use Rattle.eval_commands.specs.UdevHwdb.{udev_hwdb_of}
 use Rattle.eval_commands.specs.Words.{command_words, udev_words}
 use Rattle.eval_acts.specs.Acts.{act_step}
-use Rattle.eval_lookups.specs.LookUpNeeds.{has_modalias}
-use Rattle.eval_lookups.specs.LookUps.{found}
+use Rattle.eval_commands.specs.LookUpNeeds.{has_modalias}
+use Rattle.eval_commands.specs.LookUps.{found}
 use Rattle.eval_acts.specs.Printed.{line_property, printed_properties}
 use Rattle.eval_acts.specs.RootImports.{file_properties}
 use Rattle.eval_acts.specs.Unread.{first_unread}
-use Rattle.eval_lookups.specs.UsbModalias.{usb_modalias}
+use Rattle.eval_commands.specs.UsbModalias.{usb_modalias}
 use Rattle.eval_assignments.specs.Escapes.{escape_of}
 use Rattle.eval_assignments.specs.Steps.{set_step}
 use Rattle.eval_rules.specs.Idle.{is_idle_by}
@@ -118,13 +118,13 @@ use Rattle.engine_reports.specs.Messages.{message_line}
 use Rattle.rule_places.specs.Files.{placed_findings}
 use Rattle.rule_lints.specs.RuleLints.{lints_of_rule}
 use Rattle.rule_file_lints.specs.FileLints.{placed_lints}
-use Rattle.rule_pairs.specs.Accounts.{given_in}
-use Rattle.rule_pairs.specs.Forms.{form_of}
-use Rattle.rule_pairs.specs.Matters.{matter_of}
-use Rattle.rule_pairs.specs.Pairs.{pair_findings}
-use Rattle.rule_pairs.specs.Relations.{beginning, part_ways, parts_from_all, is_same, is_against}
-use Rattle.rule_pairs.specs.Said.{said_of}
-use Rattle.rule_pairs.specs.Words.{words_of}
+use Rattle.rule_remarks.specs.Accounts.{given_in}
+use Rattle.rule_remarks.specs.Forms.{form_of}
+use Rattle.rule_remarks.specs.Matters.{matter_of}
+use Rattle.rule_remarks.specs.Pairs.{pair_findings}
+use Rattle.rule_remarks.specs.Relations.{beginning, part_ways, parts_from_all, is_same, is_against}
+use Rattle.rule_remarks.specs.Said.{said_of}
+use Rattle.rule_remarks.specs.Words.{words_of}
 use Rattle.rule_remarks.specs.Findings.{findings_as}
 use Rattle.rule_remarks.specs.Remarks.{rule_remarks, token_remarks}
 use Rattle.rule_remarks.specs.Rules.{file_remarks}
@@ -146,11 +146,11 @@ use Rattle.engine_courses.specs.Nearest.{least}
 use Rattle.engine_courses.specs.WhyLines.{why_line, unread_text, reported_from, why_lines}
 use Rattle.engine_courses.specs.Questions.{question_answer}
 use Rattle.engine_answers.specs.Answers.{lines_with}
-use Rattle.engine_json.specs.Answers.{answer_members}
-use Rattle.engine_json.specs.Members as engine_json_members
+use Rattle.engine_answers.specs.JsonAnswers.{answer_members}
+use Rattle.engine_answers.specs.Members as engine_json_members
 use Rattle.engine_answers.specs.Items.{node_lines, item_lines}
 use Rattle.engine_answers.specs.Lines.{text_line, pair_line, run_line, block_note_line, note_line}
-use Rattle.engine_ends.specs.EventLine.{event_line}
+use Rattle.engine_sessions.specs.EventLine.{event_line}
 use Rattle.engine_sessions.specs.BlockFaults.{block_line, block_said}
 use Rattle.eval_courses.specs.Fates.{fate, fates_from, keys_reached}
 use Rattle.eval_unread.specs.Given.{first_looking, first_plain, first_up}
@@ -228,8 +228,8 @@ unfoldable checking : ⊤
 unfolding placed_findings lints_of_rule placed_lints given_in form_of matter_of pair_findings beginning part_ways parts_from_all
     is_same is_against said_of words_of findings_as rule_remarks token_remarks file_remarks value_fault
     engine_reports_checks.summary_line remark_of gcc_line plain_line spot_of row_on file_catalogue_rows.messages file_catalogue_rows.lints ignores_in file_reported
-    file_faults line_faults section_after joined_after joined_lines link_form_of asks_address asks_machine asks_name
-    asks_system link_faults links_outcome links_reported database_lints database_outcome
+    file_faults line_faults section_after joined_after joined_lines link_form_of asks_something
+    link_faults links_outcome links_reported database_lints database_outcome
 checking = tt
 
 -- all of these

@@ -1,8 +1,8 @@
 -- What a proof unfolds so that a session of the language server computes from what a client sends.
 use Rattle.std.specs.Prelude.{⊤}
-use Rattle.rule_format.specs.Mended.{mended}
-use Rattle.lsp_sessions.specs.Framed.{framed}
-use Rattle.lsp_sessions.specs.Headers.{content_length}
+use Rattle.rule_places.specs.Mended.{mended}
+use Rattle.lsp_server.specs.Framed.{framed}
+use Rattle.lsp_server.specs.Headers.{content_length}
 use Rattle.lsp_messages.proofs.OnLiterals.{messages_on_literals}
 use Rattle.lsp_messages.specs.Positions.{position_value, range_value}
 use Rattle.lsp_messages.specs.Responses.{notification_of, response_of}
@@ -16,9 +16,9 @@ use Rattle.lsp_words.specs.Slots.{slot_of}
 use Rattle.lsp_words.specs.Symbols.{begun_rule, label_of, matched, record_symbol, symbols_of}
 use Rattle.lsp_words.specs.Tables.{entries_of}
 use Rattle.lsp_words.specs.Values.{is_split, substitutes}
-use Rattle.lsp_diagnostics.specs.Diagnostics.{diagnostic_value, said_of}
-use Rattle.lsp_diagnostics.specs.Documents.{document_diagnostics}
-use Rattle.lsp_diagnostics.specs.Fixes.{action}
+use Rattle.lsp_answers.specs.Diagnostics.{diagnostic_value, said_of}
+use Rattle.lsp_answers.specs.Documents.{document_diagnostics}
+use Rattle.lsp_answers.specs.Fixes.{action}
 use Rattle.lsp_answers.specs.Actions.{actions}
 use Rattle.lsp_answers.specs.Answers.{answer}
 use Rattle.lsp_answers.specs.Edits.{formatting, whole_edit}

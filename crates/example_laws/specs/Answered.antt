@@ -7,7 +7,7 @@ use Rattle.text_bytes.specs.declared.source_file.FileKind.{FileKind}
 use Rattle.text_bytes.specs.declared.source_file.FileKind.TheVariants.{Hwdb, Rules}
 use Rattle.text_bytes.specs.declared.source_file.SourceFile.{SourceFile}
 use Rattle.text_bytes.specs.Text.{Text}
-use Rattle.hwdb_lookup.specs.declared.entry.Entry.{Entry}
+use Rattle.trie_nodes.specs.declared.entry.Entry.{Entry}
 use Rattle.hwdb_core.specs.Sources.{entries_of}
 use Rattle.rule_core.specs.Ends.{file_as_read}
 use Rattle.rule_core.specs.Rules.{ReadRules, set_of_as}
@@ -15,7 +15,7 @@ use Rattle.device_core.specs.Faults.{block_gives}
 use Rattle.device_core.specs.FaultTexts.{fault_text}
 use Rattle.device_core.specs.Values.{EventValue, by_profile}
 use Rattle.device_core.specs.declared.faults.BlockFault.{BlockFault}
-use Rattle.builtin_knowledge.specs.Knowledge.{Known}
+use Rattle.builtin_devices.specs.Knowledge.{Known}
 use Rattle.builtin_devices.specs.Outcomes.{failing}
 use Rattle.builtin_core.specs.Builtins.{known_by}
 use Rattle.link_files.specs.Files.{link_files}

@@ -5,10 +5,10 @@ use Rattle.text_bytes.specs.declared.profile.Profile.TheVariants.{Manual}
 use Rattle.text_bytes.specs.declared.source_file.FileKind.TheVariants.{Hwdb, Rules}
 use Rattle.text_bytes.specs.declared.source_file.SourceFile.{SourceFile}
 use Rattle.text_bytes.specs.Text.{Text}
-use Rattle.engine_ends.specs.Delivery.{RunOutcome}
-use Rattle.engine_ends.specs.Kinds.{names_files_of}
-use Rattle.engine_ends.specs.declared.line.Format.{Format}
-use Rattle.engine_ends.specs.declared.line.Line.{Line}
+use Rattle.engine_sessions.specs.Delivery.{RunOutcome}
+use Rattle.engine_sessions.specs.Kinds.{names_files_of}
+use Rattle.engine_sessions.specs.declared.line.Format.{Format}
+use Rattle.engine_sessions.specs.declared.line.Line.{Line}
 use Rattle.engine_checks.specs.Files.{asked_by}
 use Rattle.engine_checks.specs.Links.{links_outcome}
 use Rattle.engine_checks.specs.Outcomes.{update_outcome, verify_outcome}

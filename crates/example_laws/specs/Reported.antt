@@ -9,14 +9,14 @@ use Rattle.rule_core.specs.Ends.{file_as_read}
 use Rattle.rule_core.specs.Rules.{ReadRules, set_of_as}
 use Rattle.device_core.specs.Faults.{block_gives}
 use Rattle.device_core.specs.Values.{EventValue}
-use Rattle.builtin_knowledge.specs.Knowledge.{Known}
+use Rattle.builtin_devices.specs.Knowledge.{Known}
 use Rattle.eval_unread.specs.Unread.{whole_outcome}
 use Rattle.engine_answers.specs.Answers.{answer_lines, sourced_lines}
 use Rattle.engine_courses.specs.Asked.{unknown}
 use Rattle.engine_courses.specs.WhyLines.{why_lines}
 use Rattle.engine_courses.specs.Questions.{question_answer}
-use Rattle.engine_json.specs.Answers.{json_answer}
-use Rattle.engine_ends.specs.Delivery.{RunOutcome}
+use Rattle.engine_answers.specs.JsonAnswers.{json_answer}
+use Rattle.engine_sessions.specs.Delivery.{RunOutcome}
 use Rattle.engine_sessions.specs.Outcomes.{input_outcome}
 use Rattle.engine_sessions.specs.Tallies.{events_of}
 use Rattle.engine_courses.specs.Unused.{unused_lines}

@@ -1,10 +1,10 @@
 -- What a client and the language server send one another, as the contents of frames, and how a session ends.
 use Rattle.std.specs.Prelude.{ℕ, ◌++◌, List, [], codes, decimal, flat_map}
 use Rattle.text_bytes.specs.Text.{Text}
-use Rattle.engine_ends.specs.Delivery.{RunOutcome}
-use Rattle.lsp_sessions.specs.Framed.{framed}
-use Rattle.lsp_sessions.specs.Outcomes.{session_outcome}
-use Rattle.lsp_sessions.specs.Servers.{acting}
+use Rattle.engine_sessions.specs.Delivery.{RunOutcome}
+use Rattle.lsp_server.specs.Framed.{framed}
+use Rattle.lsp_server.specs.Outcomes.{session_outcome}
+use Rattle.lsp_server.specs.AnyServer.{acting}
 use Rattle.lsp_server.specs.Replies.{after, reply}
 use Rattle.lsp_server.specs.Servers.{first}
 

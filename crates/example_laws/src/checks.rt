@@ -2,7 +2,7 @@
 ghost use Rattle.std.specs.Prelude.{◌∷◌, [], codes, false};
 ghost use Rattle.text_bytes.specs.declared.profile.Profile.TheVariants.{Manual, Udev};
 ghost use Rattle.text_bytes.specs.declared.source_file.FileKind.TheVariants.{Rules};
-ghost use Rattle.engine_ends.specs.declared.line.Format.TheVariants.{Gcc, Plain};
+ghost use Rattle.engine_sessions.specs.declared.line.Format.TheVariants.{Gcc, Plain};
 ghost use Rattle.example_laws.specs.Answered.{text};
 ghost use Rattle.link_files.specs.Examples.{at};
 ghost use Rattle.example_laws.specs.Checked.{Checks, ChecksDatabase, ChecksLinks, linting, not_linting, said};

@@ -8,9 +8,9 @@ use Rattle.file_messages.specs.declared.message.MessageKind.TheVariants.{Propert
 use Rattle.rule_lints.specs.declared.lint.Lint.TheVariants.{NoMatch, NeverFits, BlankBesideBar, UnknownName, NotSubstituted, ListReplaced, MeantAsMatch}
 use Rattle.rule_lints.specs.declared.lint.Lint.TheVariants.{NameTooLong, WantedWithoutTag, ForbiddenCommand, NoResultYet, LinkOfNet, TagTooLate}
 use Rattle.rule_lints.specs.declared.lint.Lint.TheVariants.{ModeNotOctal, SignOfShell, RelativeProgram, LetterCase, NoSuchDevice, ImportedBelow, MeantToCompare, NameOutsideNet, LinkWithDev, QuotedName, NotAPattern, AlwaysHolds, NeverReached, NoPatternForUdev}
-use Rattle.hwdb_lints.specs.declared.lint.DatabaseLint.TheVariants.{DigitCase, NoModalias, EndMissing, UnknownPrefix, MatchTwice, PropertyTwice, BlankAtEquals}
-use Rattle.hwdb_lints.specs.declared.lint.DatabaseLint.TheVariants.{OddName, BlankAtEnd, ByteOrderMark, CutWord, OpenSet, WrongValue}
-use Rattle.link_lints.specs.declared.fault.LinkFault.TheVariants as link
+use Rattle.hwdb_core.specs.declared.lint.DatabaseLint.TheVariants.{DigitCase, NoModalias, EndMissing, UnknownPrefix, MatchTwice, PropertyTwice, BlankAtEquals}
+use Rattle.hwdb_core.specs.declared.lint.DatabaseLint.TheVariants.{OddName, BlankAtEnd, ByteOrderMark, CutWord, OpenSet, WrongValue}
+use Rattle.link_files.specs.declared.fault.LinkFault.TheVariants as link
 use Rattle.file_catalogue.specs.declared.remark.Remark.{Remark}
 use Rattle.file_catalogue.specs.declared.remark.Remark.TheVariants as about
 use Rattle.file_catalogue.specs.declared.remark.Remark.TheVariants.{Message, IdleIgnore, UnknownCode}

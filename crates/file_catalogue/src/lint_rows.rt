@@ -1,8 +1,8 @@
 //! The rows on lints and comments.
 
 use crate::remark::{Remark, Row};
-use hwdb_lints::DatabaseLint;
-use link_lints::LinkFault;
+use hwdb_core::DatabaseLint;
+use link_files::LinkFault;
 use rule_lints::Lint;
 
 /// The row of each other code: W of lints of rules, D of a database, L of `.link` files, and I on comments.

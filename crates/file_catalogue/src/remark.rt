@@ -8,8 +8,8 @@ ghost use Rattle.file_catalogue.specs.Catalogue.{remark_heading, remark_of, rema
 use crate::lint_rows::LINTS;
 use crate::message_rows::MESSAGES;
 use file_messages::MessageKind;
-use hwdb_lints::DatabaseLint;
-use link_lints::LinkFault;
+use hwdb_core::DatabaseLint;
+use link_files::LinkFault;
 use rule_lints::Lint;
 use std::alloc::{AllocError, Global};
 use text_bytes::begins_with;

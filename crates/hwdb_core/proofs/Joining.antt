@@ -5,7 +5,7 @@ use Rattle.std.proofs.lemmas.List.Sums.{sum_by-append, sum_by-cons}
 use Rattle.std.proofs.lemmas.List.Elements.{filter-append}
 use Rattle.file_messages.specs.declared.message.Message.{Message}
 use Rattle.text_core.specs.Fits.{fits}
-use Rattle.hwdb_lookup.specs.declared.Entry.{Entry}
+use Rattle.trie_nodes.specs.declared.Entry.{Entry}
 use Rattle.hwdb_core.specs.Properties.{Property}
 use Rattle.hwdb_core.specs.Sources.{entries_from, entry_at, text_len}
 use Rattle.hwdb_core.specs.Found.{Adds, FailsAt, Found, Held, IsKept, counting, found_in, join, nothing, only_messages, onto}

@@ -1,3 +1,5 @@
+pub mod FormLaw
+pub mod Earlier
 pub mod Walking
 pub mod Keeping
 pub mod Finding

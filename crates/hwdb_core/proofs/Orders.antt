@@ -10,8 +10,8 @@ use Rattle.text_bytes.specs.declared.SourceFile.{SourceFile}
 use Rattle.text_core.specs.Spell.{spell}
 use Rattle.text_core.specs.declared.glob_fault.GlobFault.{GlobFault}
 use Rattle.text_core.specs.declared.item.Item.{Item}
-use Rattle.hwdb_lookup.specs.Orders.{Rising}
-use Rattle.hwdb_lookup.specs.declared.Entry.{Entry}
+use Rattle.trie_nodes.specs.Orders.{Rising}
+use Rattle.trie_nodes.specs.declared.Entry.{Entry}
 use Rattle.text_bytes.specs.Lines.{NumberedLine}
 use Rattle.hwdb_core.specs.Paragraphs.{Cut}
 use Rattle.hwdb_core.specs.Properties.{Property, cut_properties, from_line, from_pair, from_spelled, pair_at, property_text}

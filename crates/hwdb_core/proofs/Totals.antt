@@ -3,7 +3,7 @@ use Rattle.std.proofs.Common.{◌≡◌, ℕ, ◌≤◌, List, ◌∷◌, [], le
 use Rattle.std.specs.List.{flat_map, sum_by}
 use Rattle.std.proofs.lemmas.List.Sums.{sum_by-cons}
 use Rattle.text_bytes.specs.declared.SourceFile.{SourceFile}
-use Rattle.hwdb_lookup.specs.Bounds.{max_name_bytes}
+use Rattle.trie_nodes.specs.Bounds.{max_name_bytes}
 use Rattle.hwdb_core.specs.Properties.{cut_match_bytes, cut_properties}
 use Rattle.hwdb_core.specs.Messages.{cut_messages}
 use Rattle.hwdb_core.specs.Sources.{WithinBounds, cuts_of, entries_of, match_bytes_of, messages_of, properties_of}

@@ -4,9 +4,9 @@ use Rattle.text_bytes.specs.Text.{Text}
 use Rattle.file_messages.specs.declared.message.Message.{Message}
 use Rattle.text_core.specs.Fits.{fits}
 use Rattle.text_core.specs.declared.item.Item.{Item}
-use Rattle.hwdb_lookup.specs.declared.Entry.{Entry}
-use Rattle.hwdb_lookup.specs.Query.{fitting}
-use Rattle.hwdb_lookup.specs.Bounds.{max_entries, max_match_bytes, max_text_bytes}
+use Rattle.trie_nodes.specs.declared.Entry.{Entry}
+use Rattle.trie_nodes.specs.Query.{fitting}
+use Rattle.trie_nodes.specs.Bounds.{max_entries, max_match_bytes, max_text_bytes}
 use Rattle.hwdb_core.specs.Properties.{Property}
 use Rattle.hwdb_core.specs.Sources.{entries_from, text_len}
 use Rattle.hwdb_core.specs.declared.fault.HwdbFault.{HwdbFault}

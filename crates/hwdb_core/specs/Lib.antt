@@ -1,3 +1,10 @@
+pub mod Forms
+pub mod Lints
+pub mod Names
+pub mod Placed
+pub mod Values
+pub mod Written
+pub mod Earlier
 pub mod Found
 pub mod Ruling
 pub mod Paragraphs

@@ -2,8 +2,8 @@
 use Rattle.std.specs.Prelude.{ℕ, ◌+◌, Bool, ◌&&◌, nat_le, IsTrue, List, [], ◌∷◌, length, map, flat_map, sum_by}
 use Rattle.file_messages.specs.declared.message.Message.{Message}
 use Rattle.text_bytes.specs.declared.SourceFile.{SourceFile}
-use Rattle.hwdb_lookup.specs.Bounds.{max_entries, max_match_bytes, max_name_bytes, max_text_bytes}
-use Rattle.hwdb_lookup.specs.declared.Entry.{Entry}
+use Rattle.trie_nodes.specs.Bounds.{max_entries, max_match_bytes, max_name_bytes, max_text_bytes}
+use Rattle.trie_nodes.specs.declared.Entry.{Entry}
 use Rattle.hwdb_core.specs.Lines.{lines_of}
 use Rattle.hwdb_core.specs.Paragraphs.{Cut, cut, paragraphs}
 use Rattle.hwdb_core.specs.Properties.{Property, cut_properties, cut_match_bytes}

@@ -1,9 +1,9 @@
 //! All the database files of a run.
 
 ghost use Rattle.std.specs.Prelude.{◌≡◌, ◌≤◌, ◌↔◌, IsTrue, IfOk, IfErr, sum_by, length};
-ghost use Rattle.hwdb_lookup.specs.Bounds.{max_name_bytes};
-ghost use Rattle.hwdb_lookup.specs.Orders.{Rising};
-ghost use Rattle.hwdb_lookup.specs.Query.{fitting};
+ghost use Rattle.trie_nodes.specs.Bounds.{max_name_bytes};
+ghost use Rattle.trie_nodes.specs.Orders.{Rising};
+ghost use Rattle.trie_nodes.specs.Query.{fitting};
 ghost use Rattle.hwdb_core.specs.Sources.{entries_of, messages_of, WithinBounds};
 ghost use Rattle.hwdb_core.specs.Found.{Adds, counting, found_in};
 ghost use Rattle.hwdb_core.specs.Parts.{file_found};
@@ -13,9 +13,9 @@ use crate::fault::HwdbFault;
 use crate::gathered::Gathered;
 use crate::reading::read_file;
 use file_messages::Message;
-use hwdb_lookup::{Entry, MAX_NAME_BYTES};
 use std::alloc::Global;
 use text_bytes::{Bytes, SourceFile};
+use trie_nodes::{Entry, MAX_NAME_BYTES};
 
 /// What database files hold, and what is wrong with them.
 #[derive(Drop)]

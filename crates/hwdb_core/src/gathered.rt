@@ -4,7 +4,7 @@
 //! for, entries that it does not fit are counted but not kept.
 
 ghost use Rattle.std.specs.Prelude.{◌≡◌, ◌≤◌, ◌<◌, ◌+◌, ◌⊎◌, ◌∷◌, [], IfOk, OnOk, OnErr};
-ghost use Rattle.hwdb_lookup.specs.Bounds.{max_entries, max_text_bytes};
+ghost use Rattle.trie_nodes.specs.Bounds.{max_entries, max_text_bytes};
 ghost use Rattle.text_bytes.specs.Numbers.{capped};
 ghost use Rattle.file_messages.specs.Messages.{message};
 ghost use Rattle.hwdb_core.specs.Ruling.{passes_over};
@@ -14,11 +14,11 @@ use crate::fault::HwdbFault;
 use crate::paragraph::Pair;
 use crate::ruling::is_ruled_out;
 use file_messages::{Message, MessageKind};
-use hwdb_lookup::{Entry, MAX_ENTRIES, MAX_MATCH_BYTES, MAX_TEXT_BYTES, SharedBytes};
 use std::alloc::{AllocError, Global};
 use std::marker::Model;
 use text_bytes::{Bytes, capped};
 use text_core::PackedPattern;
+use trie_nodes::{Entry, MAX_ENTRIES, MAX_MATCH_BYTES, MAX_TEXT_BYTES, SharedBytes};
 
 /// Entries and messages, in order.
 #[derive(Drop)]
@@ -33,7 +33,7 @@ pub(crate) struct Gathered {
 
 impl Model for Gathered {
     ghost use Rattle.std.specs.Prelude.{◌≤◌};
-    ghost use Rattle.hwdb_lookup.specs.Bounds.{max_entries, max_match_bytes, max_text_bytes};
+    ghost use Rattle.trie_nodes.specs.Bounds.{max_entries, max_match_bytes, max_text_bytes};
     ghost use Rattle.hwdb_core.specs.Found.{Held};
 
     ghost Value = { Held };

@@ -1,11 +1,10 @@
 //! Entries in a list, in a trie and in an index: which of them answers, and how many nodes are walked for it.
-use hwdb_lookup::{Entry, Lookup, PlainDb, SharedBytes, Sourced, rising};
 use std::alloc::{AllocError, Global};
 use std::cmp::Ordering;
 use std::test::Fail;
 use text_core::{Bytes, Item, PackedPattern};
-use trie_build::{compare_from, compare_labels};
-use trie_core::{Index, Nodes, Trie, write_index};
+use trie_build::{Index, Nodes, Trie, compare_from, compare_labels, write_index};
+use trie_nodes::{Entry, Lookup, PlainDb, SharedBytes, Sourced, rising};
 
 /// A property: its pattern, its key and its value.
 type Property<'a> = (&'a [u8], &'a [u8], &'a [u8]);

@@ -3,8 +3,9 @@ ghost use Rattle.std.specs.Prelude.{[], ◌∷◌, ◌++◌};
 ghost use Rattle.text_bytes.specs.Names.{newline, space};
 
 use device_core::Event;
-use engine_ends::{MemorySink, MemorySource};
-use engine_sessions::{Answering, Session, SessionFault, TurnFault, turn};
+use engine_sessions::{
+    Answering, MemorySink, MemorySource, Session, SessionFault, TurnFault, turn,
+};
 use std::alloc::{AllocError, Global};
 use std::test::Fail;
 use text_bytes::Bytes;

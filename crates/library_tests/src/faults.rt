@@ -1,16 +1,14 @@
 //! Faults as a caller prints them.
 use devdry_files::{DiskFault, ReadFault};
 use device_core::{BlockFault, BlockFaultKind, SplitFault};
-use engine_ends::{DeviceFault, LineFault};
-use engine_sessions::{SessionFault, TurnFault};
+use engine_sessions::{DeviceFault, LineFault, SessionFault, TurnFault};
 use hwdb_core::HwdbFault;
-use index_reading::IndexFault;
 use rule_core::{RulesFault, TemplateFault, TokenFault, TokenFaultKind};
 use std::alloc::{AllocError, Global};
 use std::error::Error;
 use std::test::Fail;
 use text_core::GlobFault;
-use trie_build::TrieFault;
+use trie_build::{IndexFault, TrieFault};
 
 /// Whether a fault is printed as this text.
 fn says<F: Error>(alloc: Global, fault: &F, wanted: &str) -> Result<bool, AllocError> {

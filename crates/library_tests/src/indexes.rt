@@ -1,9 +1,8 @@
 //! Indexes: what their calls return besides the properties that are found, and what their records are.
-use hwdb_lookup::Lookup;
-use index_reading::{Header, NodeRecord, Places, Span, ValueRecord, check, kinds};
 use std::alloc::{AllocError, Global};
 use std::test::Fail;
-use trie_core::Index;
+use trie_build::{Header, Index, NodeRecord, Places, Span, ValueRecord, check, kinds};
+use trie_nodes::Lookup;
 
 /// The index of `a*` with ` K=V`, from line 2 of t.hwdb, as docs/format.md prints it.
 const WITH_FILE: &[u8; 144] = b"devdryhw\x02\0\0\0\x03\0\0\0\x01\0\0\0\0\0\0\0\x08\0\0\0\0\0\0\0\

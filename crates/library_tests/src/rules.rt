@@ -1,7 +1,9 @@
 //! What tokens, templates and rules show only to a caller.
 use rule_core::{ReadRules, Rule, read_rules};
-use rule_templates::{Piece, Template, TemplateFault};
-use rule_tokens::{Operator, Quote, Span, Token, TokenFault, TokenFaultKind, Tokens};
+use rule_tokens::{
+    Operator, Piece, Quote, Span, Template, TemplateFault, Token, TokenFault, TokenFaultKind,
+    Tokens,
+};
 use std::alloc::{AllocError, Global};
 use std::test::Fail;
 use text_bytes::{Bytes, FileKind, SourceFile};

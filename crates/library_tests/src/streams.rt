@@ -1,7 +1,7 @@
 //! Each device at a concrete type, through its trait: whole runs, and one failure of each kind.
 ghost use Rattle.std.specs.Prelude.{◌≤◌, IfOk};
 
-use engine_ends::{
+use engine_sessions::{
     DeviceFault, MemorySink, MemorySource, Sink, SinkOver, Source, SourceOver, hand_on,
     hand_on_each, write_all,
 };

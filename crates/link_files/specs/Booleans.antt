@@ -1,21 +1,19 @@
 -- The words of systemd's files that mean yes and no.
-use Rattle.std.specs.Prelude.{Bool, List, [], ◌∷◌, map, codes}
+use Rattle.std.specs.Prelude.{Bool, List, map}
 use Rattle.std.specs.Char.{to_ascii_lowercase}
+use Rattle.std.specs.List.{list_any}
 use Rattle.text_bytes.specs.Text.{Text}
-use Rattle.text_tables.specs.Texts.{is_among}
+use Rattle.text_tables.specs.Texts.{same_text}
+use Rattle.link_files.specs.declared.booleans.TheConstants.{NO, YES}
 
--- the words that mean yes
-abbrev pub yes_words : List Text
-yes_words = codes "1" ∷ codes "yes" ∷ codes "y" ∷ codes "true" ∷ codes "t" ∷ codes "on" ∷ []
+-- whether a word is one of these, in letters of any case
+abbrev pub is_any_of : List Text → Text → Bool
+is_any_of words word = list_any (λ other. same_text (map to_ascii_lowercase word) (map to_ascii_lowercase other)) words
 
--- the words that mean no
-abbrev pub no_words : List Text
-no_words = codes "0" ∷ codes "no" ∷ codes "n" ∷ codes "false" ∷ codes "f" ∷ codes "off" ∷ []
-
--- whether a word means yes, in letters of any case
+-- whether a word means yes
 unfoldable pub is_yes : Text → Bool
-is_yes word = is_among yes_words (map to_ascii_lowercase word)
+is_yes word = is_any_of (map (λ yes. yes.now) YES) word
 
 -- whether a word means no
 unfoldable pub is_no : Text → Bool
-is_no word = is_among no_words (map to_ascii_lowercase word)
+is_no word = is_any_of (map (λ no. no.now) NO) word

@@ -57,15 +57,16 @@ reading_of r files = fold (λ held file. with_file held file.bytes) r files
 abbrev pub is_masked : SourceFile → Bool
 is_masked file = is_empty file.bytes || begins_with dot file.name
 
--- what was set counts if each line could be read; otherwise nothing is set
-abbrev pub settings_of : ReadingValue → List Setting
-settings_of r = if r.is_sound then r.settings else []
-
--- a file and its drop-ins
+-- a file and its drop-ins; what was set counts if each line could be read, and otherwise nothing is set
 abbrev pub with_drop_ins : SourceFile → List SourceFile → LinkFileValue
 with_drop_ins file drop_ins =
     let r = reading_of unread (file ∷ drop_ins) in
-    record { path = path_of file; drop_ins = join_with_byte colon (map listed_path drop_ins); is_sound = r.is_sound; settings = settings_of r }
+    record {
+      path = path_of file;
+      drop_ins = join_with_byte colon (map listed_path drop_ins);
+      is_sound = r.is_sound;
+      settings = if r.is_sound then r.settings else [];
+    }
 
 -- a file with its drop-ins among some files
 unfoldable pub link_file : (drop_ins : List SourceFile) → SourceFile → Option LinkFileValue

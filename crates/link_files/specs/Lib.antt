@@ -1,3 +1,8 @@
+pub mod Keys
+pub mod Values
+pub mod Joined
+pub mod Faults
+pub mod Matching
 pub mod Booleans
 pub mod Lines
 pub mod Names

@@ -13,13 +13,9 @@ is_space b = is_blank b || (b == newline || b == carriage_return)
 abbrev pub from_start : Text → Text
 from_start text = skip_while is_space text
 
--- a text without such bytes at its end
-abbrev pub up_to_end : Text → Text
-up_to_end text = take (length text - suffix_len is_space text) text
-
 -- a text without such bytes at its ends
 unfoldable pub stripped : Text → Text
-stripped text = up_to_end (from_start text)
+stripped text = let begun = from_start text in take (length begun - suffix_len is_space begun) begun
 
 -- a line without a carriage return at its end
 abbrev pub bare : Text → Text

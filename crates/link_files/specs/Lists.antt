@@ -12,7 +12,7 @@ use Rattle.link_files.specs.Names.{is_interface_name}
 use Rattle.link_files.specs.Words.{is_whole, words_of}
 use Rattle.link_files.specs.declared.settings.Setting.{Setting}
 use Rattle.link_files.specs.declared.words.WordKind.{WordKind}
-use Rattle.link_files.specs.declared.words.WordKind.TheVariants.{Plain, Name, Glob, Property}
+use Rattle.link_files.specs.declared.words.WordKind.TheVariants.{Name, Plain, Property}
 
 -- the section that says for which interfaces a file is
 abbrev pub match_section : Text
@@ -40,21 +40,14 @@ is_property word = option_map_or (λ parts. is_property_name parts.0) (split_onc
 
 -- whether a word counts among those of its kind
 abbrev pub counts : WordKind → Text → Bool
-counts Plain word = true
 counts Name word = is_interface_name word
-counts Glob word = true
 counts Property word = is_property word
+counts kind word = true
 
--- whether a value may begin with `!`, which negates each of its words
-abbrev pub has_signs : WordKind → Bool
-has_signs Plain = false
-has_signs Name = true
-has_signs Glob = true
-has_signs Property = true
-
--- whether the words of a value are negated
+-- whether the words of a value are negated, by a `!` at its start
 abbrev pub is_negated : WordKind → Text → Bool
-is_negated kind value = has_signs kind && begins_with bang value
+is_negated Plain value = false
+is_negated kind value = begins_with bang value
 
 -- a value without the sign before all its words
 abbrev pub unsigned : WordKind → Text → Text

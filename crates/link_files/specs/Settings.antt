@@ -15,13 +15,11 @@ use Rattle.link_files.specs.declared.settings.Setting.{Setting}
 abbrev pub is_section_byte : ℕ → Bool
 is_section_byte b = not (is_control b || (b == double_quote || (b == single_quote || b == backslash)))
 
--- what is between the first and the last byte of a text
-abbrev pub inside : Text → Text
-inside text = take (length text - 2) (drop 1 text)
-
 -- the section that a line begins which begins with `[`, if it ends in `]` and the bytes between may be in a name
 unfoldable pub section_of : Text → Option Text
-section_of text = if ends_in close_bracket text && list_all is_section_byte (inside text) then Some (inside text) else None
+section_of text =
+    let inside = take (length text - 2) (drop 1 text) in
+    if ends_in close_bracket text && list_all is_section_byte inside then Some inside else None
 
 -- What was read so far: whether each line could be read, the section that has begun, and what was set.
 pub record ReadingValue : Type 0 where
@@ -60,13 +58,9 @@ with_line r line =
     else if begins_with open_bracket text then with_section r (section_of text)
     else with_assignment r (split_once equals text)
 
--- the mark of UTF-8 that some editors put at the start of a file
-abbrev pub byte_order_mark : Text
-byte_order_mark = 239 ∷ 187 ∷ 191 ∷ []
-
--- a file without that mark
+-- a file without the mark of UTF-8 that some editors put at its start
 abbrev pub unmarked : Text → Text
-unmarked bytes = if starts_with nat_eq bytes byte_order_mark then drop 3 bytes else bytes
+unmarked bytes = if starts_with nat_eq bytes (239 ∷ 187 ∷ 191 ∷ []) then drop 3 bytes else bytes
 
 -- what a file adds to what files before it set; each begins without a section
 unfoldable pub with_file : ReadingValue → (bytes : Text) → ReadingValue

@@ -2,7 +2,13 @@
 ghost use Rattle.std.specs.Char.{to_ascii_lowercase};
 ghost use Rattle.std.specs.Prelude.{◌≡◌, map};
 ghost use Rattle.text_tables.specs.Texts.{same_text};
-ghost use Rattle.link_files.specs.Booleans.{is_no, is_yes};
+ghost use Rattle.link_files.specs.Booleans.{is_any_of, is_no, is_yes};
+
+/// The words that mean yes.
+pub(crate) const YES: [&[u8]; 6] = [b"1", b"yes", b"y", b"true", b"t", b"on"];
+
+/// The words that mean no.
+pub(crate) const NO: [&[u8]; 6] = [b"0", b"no", b"n", b"false", b"f", b"off"];
 
 /// Whether a word is another, in letters of any case.
 fn is_same_word(word: &[u8], other: &[u8]) -> bool
@@ -11,17 +17,24 @@ fn is_same_word(word: &[u8], other: &[u8]) -> bool
     word.eq_ignore_ascii_case(other)
 }
 
+/// Whether a word is one of these, in letters of any case.
+fn is_any_of(words: &[&[u8]], word: &[u8]) -> bool
+    ensures { result ≡ is_any_of (map (λ w. w.now) words.now) word.now }
+{
+    for other in words {
+        if is_same_word(word, other) {
+            return true;
+        }
+    }
+    false
+}
+
 /// Whether a word means yes, in letters of any case.
 #[tactic(auto, unfolding(crate::specs::Booleans::is_yes))]
 pub fn is_yes(word: &[u8]) -> bool
     ensures { result ≡ is_yes word.now }
 {
-    is_same_word(word, b"1")
-        || is_same_word(word, b"yes")
-        || is_same_word(word, b"y")
-        || is_same_word(word, b"true")
-        || is_same_word(word, b"t")
-        || is_same_word(word, b"on")
+    is_any_of(&YES, word)
 }
 
 /// Whether a word means no, in letters of any case.
@@ -29,10 +42,5 @@ pub fn is_yes(word: &[u8]) -> bool
 pub fn is_no(word: &[u8]) -> bool
     ensures { result ≡ is_no word.now }
 {
-    is_same_word(word, b"0")
-        || is_same_word(word, b"no")
-        || is_same_word(word, b"n")
-        || is_same_word(word, b"false")
-        || is_same_word(word, b"f")
-        || is_same_word(word, b"off")
+    is_any_of(&NO, word)
 }

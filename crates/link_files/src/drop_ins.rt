@@ -84,23 +84,15 @@ fn add_file<'f>(
     Ok(())
 }
 
-/// For each name of a file those of these files that are drop-ins of it, in their order.
-fn owners_of<'f>(alloc: Global, files: &'f [SourceFile]) -> Result<Owners<'f>, AllocError>
-    ensures { IfOk result (λ owners. (name : Text) → own_of owners name ≡ filter (is_for name) files.now) }
-{
-    let mut owners = IndexMap::new(alloc);
-    for file in files {
-        add_file(alloc, file, &mut owners)?;
-    }
-    Ok(owners)
-}
-
 impl<'f> DropIns<'f> {
     /// These files.
     pub fn of(alloc: Global, files: &'f [SourceFile]) -> Result<DropIns<'f>, AllocError>
         ensures { IfOk result (λ drop_ins. drop_ins ≡ files.now) }
     {
-        let owners = owners_of(alloc, files)?;
+        let mut owners = IndexMap::new(alloc);
+        for file in files {
+            add_file(alloc, file, &mut owners)?;
+        }
         Ok(DropIns {
             files,
             owners,

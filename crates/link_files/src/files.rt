@@ -1,9 +1,8 @@
 //! The `.link` files, in the order in which they are looked at.
-ghost use Rattle.std.specs.Prelude.{◌≡◌, ◌++◌, ◌<◌, IfOk, OnOk, filter_map, flat_map, map};
+ghost use Rattle.std.specs.Prelude.{◌≡◌, ◌++◌, ◌<◌, IfOk, OnOk, filter_map, map};
 ghost use Rattle.std.specs.List.{join_with_byte};
 ghost use Rattle.text_bytes.specs.Names.{colon};
-ghost use Rattle.link_files.specs.Files.{is_masked, link_file, link_files, link_folder, listed_byte, listed_path, path_of, reading_of, small_digit};
-ghost use Rattle.link_files.specs.Files.{with_drop_ins};
+ghost use Rattle.link_files.specs.Files.{is_masked, link_file, link_files, link_folder, listed_path, path_of, small_digit, with_drop_ins};
 
 use crate::drop_ins::DropIns;
 use crate::settings::{Reading, Setting, take_file};
@@ -93,34 +92,24 @@ fn small_digit(number: u8) -> u8
     }
 }
 
-/// Adds a byte of a path among others.
-fn list_byte(byte: u8, text: &mut Vec<u8>) -> Result<(), AllocError>
-    ensures { OnOk result (text.new.items ≡ text.old.items ++ listed_byte byte) }
-{
-    if byte < 0x20 || byte > 0x7E || byte == b':' || byte == b'\\' {
-        text.extend_from_slice(&[b'\\', b'x', small_digit(byte / 16), small_digit(byte % 16)])
-    } else {
-        Ok(text.push(byte)?)
-    }
-}
-
-/// Adds the bytes of a path among others.
-fn list_bytes(path: &[u8], text: &mut Vec<u8>) -> Result<(), AllocError>
-    ensures { OnOk result (text.new.items ≡ text.old.items ++ flat_map listed_byte path.now) }
-{
-    for byte in path {
-        list_byte(*byte, text)?;
-    }
-    Ok(())
-}
-
 /// Adds the path of a drop-in among others.
 #[tactic(auto, unfolding(crate::specs::Files::listed_path))]
 fn list_path(alloc: Global, file: &SourceFile, text: &mut Vec<u8>) -> Result<(), AllocError>
     ensures { OnOk result (text.new.items ≡ text.old.items ++ listed_path file.now) }
 {
-    let path = path_of(alloc, file)?;
-    list_bytes(&path, text)
+    for byte in &path_of(alloc, file)? {
+        if *byte < 0x20 || *byte > 0x7E || *byte == b':' || *byte == b'\\' {
+            text.extend_from_slice(&[
+                b'\\',
+                b'x',
+                small_digit(*byte / 16),
+                small_digit(*byte % 16),
+            ])?;
+        } else {
+            text.push(*byte)?;
+        }
+    }
+    Ok(())
 }
 
 /// The paths of drop-ins, with `:` in between.
@@ -139,16 +128,6 @@ fn listed(alloc: Global, files: &[&SourceFile]) -> Result<Bytes, AllocError>
     Ok(Bytes::new(text))
 }
 
-/// Takes files one after another.
-fn take_files(alloc: Global, reading: &mut Reading, files: &[&SourceFile]) -> Result<(), AllocError>
-    ensures { OnOk result (reading.new ≡ reading_of reading.old (map (λ f. f.now) files.now)) }
-{
-    for file in files {
-        take_file(alloc, reading, file.bytes.as_slice())?;
-    }
-    Ok(())
-}
-
 /// Whether a file is masked, or is not read for its name.
 pub fn is_masked(file: &SourceFile) -> bool
     ensures { result ≡ is_masked file.now }
@@ -164,14 +143,25 @@ pub fn with_drop_ins(
 ) -> Result<LinkFile, AllocError>
     ensures { IfOk result (λ link. link ≡ with_drop_ins file.now (map (λ f. f.now) drop_ins.now)) }
 {
-    let mut reading = Reading::new(alloc);
+    let path = Bytes::new(path_of(alloc, file)?);
+    let names = listed(alloc, drop_ins)?;
+    let mut reading = Reading {
+        is_sound: true,
+        section: Bytes::new(Vec::new(alloc)),
+        settings: Vec::new(alloc),
+    };
     take_file(alloc, &mut reading, file.bytes.as_slice())?;
-    take_files(alloc, &mut reading, drop_ins)?;
+    for file in drop_ins {
+        take_file(alloc, &mut reading, file.bytes.as_slice())?;
+    }
+    if !reading.is_sound {
+        reading.settings.clear();
+    }
     Ok(LinkFile {
-        path: Bytes::new(path_of(alloc, file)?),
-        drop_ins: listed(alloc, drop_ins)?,
-        is_sound: reading.is_sound(),
-        settings: reading.into_settings(),
+        path,
+        drop_ins: names,
+        is_sound: reading.is_sound,
+        settings: reading.settings,
     })
 }
 

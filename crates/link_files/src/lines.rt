@@ -2,7 +2,7 @@
 ghost use Rattle.std.specs.Prelude.{◌≡◌, ◌≤◌, ◌==◌, length};
 ghost use Rattle.std.specs.List.{prefix_len, suffix_len};
 ghost use Rattle.text_bytes.specs.Names.{backslash};
-ghost use Rattle.link_files.specs.Lines.{bare, from_start, is_comment, is_continued, is_space, stripped, up_to_end};
+ghost use Rattle.link_files.specs.Lines.{bare, from_start, is_comment, is_continued, is_space, stripped};
 
 use text_bytes::{begins_with, ends_in, is_blank, without_last};
 
@@ -39,19 +39,13 @@ pub fn from_start(text: &[u8]) -> &[u8]
     text.split_at(leading_spaces(text)).1
 }
 
-/// A text without such bytes at its end.
-fn up_to_end(text: &[u8]) -> &[u8]
-    ensures { result.now ≡ up_to_end text.now }
-{
-    text.split_at(text.len() - trailing_spaces(text)).0
-}
-
 /// A text without such bytes at its ends.
 #[tactic(auto, unfolding(crate::specs::Lines::stripped))]
 pub fn stripped(text: &[u8]) -> &[u8]
     ensures { result.now ≡ stripped text.now }
 {
-    up_to_end(from_start(text))
+    let begun = from_start(text);
+    begun.split_at(begun.len() - trailing_spaces(begun)).0
 }
 
 /// A line without a carriage return at its end.

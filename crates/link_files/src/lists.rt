@@ -1,7 +1,7 @@
 //! The values that `.link` files give a key.
-ghost use Rattle.std.specs.Prelude.{◌≡◌, ◌++◌, IfOk, OnOk, filter, map};
+ghost use Rattle.std.specs.Prelude.{◌≡◌, ◌++◌, IfOk, OnOk};
 ghost use Rattle.std.specs.List.{list_all};
-ghost use Rattle.link_files.specs.Lists.{counts, has_signs, is_list, is_negated, is_of, is_property, is_property_byte, is_property_name, last_of, list_of};
+ghost use Rattle.link_files.specs.Lists.{counts, is_list, is_negated, is_of, is_property, is_property_byte, is_property_name, last_of, list_of};
 ghost use Rattle.link_files.specs.Lists.{signed, texts_of, unsigned, with_texts_of};
 
 use crate::names::is_interface_name;
@@ -23,18 +23,12 @@ pub fn is_of(section: &[u8], key: &[u8], setting: &Setting) -> bool
     setting.section.as_slice() == section && setting.key.as_slice() == key
 }
 
-/// Whether a byte may be in the name of a property.
-fn is_property_byte(byte: u8) -> bool
-    ensures { result ≡ is_property_byte byte }
-{
-    byte.is_ascii_alphanumeric() || byte == b'_'
-}
-
 /// Whether all bytes of a text may be in the name of a property.
 fn has_property_bytes(text: &[u8]) -> bool
     ensures { result ≡ list_all is_property_byte text.now }
 {
-    text.iter().all(|byte| is_property_byte(*byte))
+    text.iter()
+        .all(|byte| byte.is_ascii_alphanumeric() || *byte == b'_')
 }
 
 /// Whether a text may be the name of a property.
@@ -69,21 +63,14 @@ fn counts(kind: WordKind, word: &[u8]) -> bool
     }
 }
 
-/// Whether a value may begin with `!`, which negates each of its words.
-fn has_signs(kind: WordKind) -> bool
-    ensures { result ≡ has_signs kind }
-{
-    match kind {
-        WordKind::Plain => false,
-        WordKind::Name | WordKind::Glob | WordKind::Property => true,
-    }
-}
-
 /// Whether the words of a value are negated.
 fn is_negated(kind: WordKind, value: &[u8]) -> bool
     ensures { result ≡ is_negated kind value.now }
 {
-    has_signs(kind) && begins_with(b'!', value)
+    match kind {
+        WordKind::Plain => false,
+        WordKind::Name | WordKind::Glob | WordKind::Property => begins_with(b'!', value),
+    }
 }
 
 /// A value without the sign before all its words.
@@ -109,24 +96,6 @@ fn signed(alloc: Global, negated: bool, word: &[u8]) -> Result<Bytes, AllocError
     Ok(Bytes::new(text))
 }
 
-/// Adds those words that count, each with its sign.
-fn add_words(
-    alloc: Global,
-    kind: WordKind,
-    negated: bool,
-    words: &[Bytes],
-    held: &mut Vec<Bytes>,
-) -> Result<(), AllocError>
-    ensures { OnOk result (held.new.items ≡ held.old.items ++ map (signed negated) (filter (counts kind) words.now)) }
-{
-    for word in words {
-        if counts(kind, word.as_slice()) {
-            held.push(signed(alloc, negated, word.as_slice())?)?;
-        }
-    }
-    Ok(())
-}
-
 /// Adds the words of a value that count, each with its sign.
 #[tactic(auto, unfolding(crate::specs::Lists::texts_of))]
 fn add_texts(
@@ -139,7 +108,12 @@ fn add_texts(
 {
     let negated = is_negated(kind, value);
     let words = words_of(alloc, kind, unsigned(kind, value))?;
-    add_words(alloc, kind, negated, &words, held)
+    for word in &words {
+        if counts(kind, word.as_slice()) {
+            held.push(signed(alloc, negated, word.as_slice())?)?;
+        }
+    }
+    Ok(())
 }
 
 /// Whether all words count.

@@ -1,9 +1,9 @@
 //! What `.link` files set.
-ghost use Rattle.std.specs.Prelude.{◌≡◌, ◌∷◌, [], List, OnOk, fold, if◌then◌else◌, option_map};
+ghost use Rattle.std.specs.Prelude.{◌≡◌, ◌∷◌, List, OnOk, fold, option_map};
 ghost use Rattle.std.specs.List.{list_all};
 ghost use Rattle.text_bytes.specs.Text.{Text};
 ghost use Rattle.link_files.specs.Lines.{joined_from};
-ghost use Rattle.link_files.specs.Settings.{inside, is_section_byte, section_of, unmarked, unread, with_assignment, with_file, with_line};
+ghost use Rattle.link_files.specs.Settings.{is_section_byte, section_of, unmarked, with_file, with_line};
 ghost use Rattle.link_files.specs.Settings.{with_section, with_setting};
 
 use crate::lines::{bare, is_comment, is_continued, stripped};
@@ -25,9 +25,12 @@ pub struct Setting {
 /// What was read of some files so far.
 #[derive(Drop)]
 pub(crate) struct Reading {
-    is_sound: bool,
-    section: Bytes,
-    settings: Vec<Setting>,
+    /// Whether each line could be read.
+    pub(crate) is_sound: bool,
+    /// The section that has begun.
+    pub(crate) section: Bytes,
+    /// What was set.
+    pub(crate) settings: Vec<Setting>,
 }
 
 impl Model for Reading {
@@ -38,26 +41,13 @@ impl Model for Reading {
     ghost view = { λ r. record { is_sound = r.is_sound; section = r.section; settings = r.settings.items } };
 }
 
-/// Whether a byte may be in the name of a section.
-fn is_section_byte(byte: u8) -> bool
-    ensures { result ≡ is_section_byte byte }
-{
-    !(byte < 0x20 || byte == 0x7F || byte == b'"' || byte == b'\'' || byte == b'\\')
-}
-
 /// Whether all bytes of a text may be in the name of a section.
 fn has_section_bytes(text: &[u8]) -> bool
     ensures { result ≡ list_all is_section_byte text.now }
 {
-    text.iter().all(|byte| is_section_byte(*byte))
-}
-
-/// What is between the first and the last byte of a text.
-fn inside(text: &[u8]) -> &[u8]
-    ensures { result.now ≡ inside text.now }
-{
-    let inner = text.get(1..).unwrap_or(b"");
-    inner.get(..text.len().saturating_sub(2)).unwrap_or(inner)
+    text.iter().all(|byte| {
+        !(*byte < 0x20 || *byte == 0x7F || *byte == b'"' || *byte == b'\'' || *byte == b'\\')
+    })
 }
 
 /// The section that a line begins which begins with `[`.
@@ -65,7 +55,8 @@ fn inside(text: &[u8]) -> &[u8]
 pub fn section_of(text: &[u8]) -> Option<&[u8]>
     ensures { option_map (λ t. t.now) result ≡ section_of text.now }
 {
-    let name = inside(text);
+    let inner = text.get(1..).unwrap_or(b"");
+    let name = inner.get(..text.len().saturating_sub(2)).unwrap_or(inner);
     if ends_in(b']', text) && has_section_bytes(name) {
         Some(name)
     } else {
@@ -85,17 +76,6 @@ pub fn unmarked(bytes: &[u8]) -> &[u8]
 }
 
 impl Reading {
-    /// Nothing was read yet.
-    pub(crate) fn new(alloc: Global) -> Reading
-        ensures { result ≡ unread }
-    {
-        Reading {
-            is_sound: true,
-            section: Bytes::new(Vec::new(alloc)),
-            settings: Vec::new(alloc),
-        }
-    }
-
     /// Begins a section.
     fn take_section(&mut self, alloc: Global, name: Option<&[u8]>) -> Result<(), AllocError>
         ensures { OnOk result (self.new ≡ with_section self.old (option_map (λ t. t.now) name.entry)) }
@@ -123,20 +103,6 @@ impl Reading {
         Ok(self.settings.push(setting)?)
     }
 
-    /// Takes the parts of a line around its first `=`.
-    fn take_assignment(
-        &mut self,
-        alloc: Global,
-        parts: Option<(&[u8], &[u8])>,
-    ) -> Result<(), AllocError>
-        ensures { OnOk result (self.new ≡ with_assignment self.old (option_map (λ p. (p.0.now, p.1.now)) parts.entry)) }
-    {
-        match parts {
-            Some((key, value)) => self.add_setting(alloc, stripped(key), stripped(value)),
-            None => Ok(()),
-        }
-    }
-
     /// Takes a line that was put together.
     #[tactic(auto, unfolding(crate::specs::Settings::with_line))]
     fn take_line(&mut self, alloc: Global, line: &[u8]) -> Result<(), AllocError>
@@ -153,7 +119,10 @@ impl Reading {
         if begins_with(b'[', text) {
             return self.take_section(alloc, section_of(text));
         }
-        self.take_assignment(alloc, split_once(b'=', text))
+        match split_once(b'=', text) {
+            Some((key, value)) => self.add_setting(alloc, stripped(key), stripped(value)),
+            None => Ok(()),
+        }
     }
 }
 
@@ -202,28 +171,4 @@ pub(crate) fn take_file(
         take_part(alloc, reading, &mut held, line)?;
     }
     reading.take_line(alloc, &held)
-}
-
-impl Reading {
-    /// Whether each line could be read.
-    pub(crate) fn is_sound(&self) -> bool
-        ensures { result ≡ self.now.is_sound }
-    {
-        self.is_sound
-    }
-
-    /// What was set; nothing if a line could not be read.
-    pub(crate) fn into_settings(self) -> Vec<Setting>
-        ensures { result.items ≡ (if self.is_sound then self.settings else []) }
-    {
-        let Reading {
-            is_sound,
-            mut settings,
-            ..
-        } = self;
-        if !is_sound {
-            settings.clear();
-        }
-        settings
-    }
 }

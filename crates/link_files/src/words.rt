@@ -1,6 +1,6 @@
 //! The words of a value.
 ghost use Rattle.std.specs.Prelude.{◌≡◌, IfOk, OnOk};
-ghost use Rattle.link_files.specs.Words.{ended, finished, has_escapes, has_quotes, is_quote, is_whole, split, split_byte, with_byte, unsplit, words_of};
+ghost use Rattle.link_files.specs.Words.{ended, is_whole, split, split_byte, with_byte, words_of};
 
 use crate::lines::is_space;
 use std::alloc::{AllocError, Global};
@@ -18,28 +18,6 @@ pub enum WordKind {
     Glob,
     /// With quotes, and with a backslash before a byte that means itself, each word a name, `=` and a value.
     Property,
-}
-
-impl WordKind {
-    /// Whether quotes belong to no word, but keep the blanks between them in one.
-    fn has_quotes(self) -> bool
-        ensures { result ≡ has_quotes self }
-    {
-        match self {
-            WordKind::Plain | WordKind::Name => false,
-            WordKind::Glob | WordKind::Property => true,
-        }
-    }
-
-    /// Whether a backslash belongs to no word, but makes the byte after it mean itself.
-    fn has_escapes(self) -> bool
-        ensures { result ≡ has_escapes self }
-    {
-        match self {
-            WordKind::Glob => false,
-            WordKind::Plain | WordKind::Name | WordKind::Property => true,
-        }
-    }
 }
 
 /// The words of a value so far.
@@ -60,27 +38,7 @@ impl Model for Splitting {
     ghost view = { λ s. record { quote = s.quote; is_escaped = s.is_escaped; is_begun = s.is_begun; word = s.word.items; words = s.words.items } };
 }
 
-/// Whether a byte is a quote.
-fn is_quote(byte: u8) -> bool
-    ensures { result ≡ is_quote byte }
-{
-    byte == b'"' || byte == b'\''
-}
-
 impl Splitting {
-    /// Nothing was read yet.
-    fn new(alloc: Global) -> Splitting
-        ensures { result ≡ unsplit }
-    {
-        Splitting {
-            quote: 0,
-            is_escaped: false,
-            is_begun: false,
-            word: Vec::new(alloc),
-            words: Vec::new(alloc),
-        }
-    }
-
     /// Ends the word, if one has begun.
     fn end_word(&mut self, alloc: Global) -> Result<(), AllocError>
         ensures { OnOk result (self.new ≡ ended self.old) }
@@ -112,12 +70,13 @@ impl Splitting {
         if self.is_escaped {
             return self.add_byte(byte);
         }
-        if byte == b'\\' && kind.has_escapes() {
+        if byte == b'\\' && !matches!(kind, WordKind::Glob) {
             self.is_escaped = true;
             self.is_begun = true;
             return Ok(());
         }
-        if is_quote(byte) && byte == self.quote {
+        let is_quote = byte == b'"' || byte == b'\'';
+        if is_quote && byte == self.quote {
             self.quote = 0;
             self.is_begun = true;
             return Ok(());
@@ -125,7 +84,7 @@ impl Splitting {
         if self.quote != 0 {
             return self.add_byte(byte);
         }
-        if is_quote(byte) && kind.has_quotes() {
+        if is_quote && matches!(kind, WordKind::Glob | WordKind::Property) {
             self.quote = byte;
             self.is_begun = true;
             return Ok(());
@@ -135,17 +94,6 @@ impl Splitting {
         }
         self.add_byte(byte)
     }
-
-    /// The words at the end of a value.
-    fn finish(mut self, alloc: Global) -> Result<Vec<Bytes>, AllocError>
-        ensures { IfOk result (λ words. words.items ≡ finished self) }
-    {
-        if !self.is_escaped && self.quote == 0 {
-            self.end_word(alloc)?;
-        }
-        let Splitting { words, .. } = self;
-        Ok(words)
-    }
 }
 
 /// The words of a value so far at its end.
@@ -153,7 +101,13 @@ impl Splitting {
 fn split(alloc: Global, kind: WordKind, value: &[u8]) -> Result<Splitting, AllocError>
     ensures { IfOk result (λ s. s ≡ split kind value.now) }
 {
-    let mut splitting = Splitting::new(alloc);
+    let mut splitting = Splitting {
+        quote: 0,
+        is_escaped: false,
+        is_begun: false,
+        word: Vec::new(alloc),
+        words: Vec::new(alloc),
+    };
     for byte in value {
         splitting.take_byte(alloc, kind, *byte)?;
     }
@@ -174,5 +128,9 @@ pub fn is_whole(alloc: Global, kind: WordKind, value: &[u8]) -> Result<bool, All
 pub fn words_of(alloc: Global, kind: WordKind, value: &[u8]) -> Result<Vec<Bytes>, AllocError>
     ensures { IfOk result (λ words. words.items ≡ words_of kind value.now) }
 {
-    split(alloc, kind, value)?.finish(alloc)
+    let mut splitting = split(alloc, kind, value)?;
+    if !splitting.is_escaped && splitting.quote == 0 {
+        splitting.end_word(alloc)?;
+    }
+    Ok(splitting.words)
 }

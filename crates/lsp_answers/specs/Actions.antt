@@ -3,9 +3,9 @@ use Rattle.std.specs.Prelude.{List, [], ◌∷◌, ◌++◌, codes}
 use Rattle.text_bytes.specs.Text.{Text}
 use Rattle.json.specs.Json.{Json}
 use Rattle.text_json.specs.Values.{array_of}
-use Rattle.lsp_diagnostics.specs.Fixes.{action, fixes}
-use Rattle.lsp_settings.specs.Settings.{Settings}
-use Rattle.lsp_texts.specs.declared.counting.Encoding.{Encoding}
+use Rattle.lsp_answers.specs.Fixes.{action, fixes}
+use Rattle.lsp_answers.specs.Settings.{Settings}
+use Rattle.lsp_messages.specs.declared.counting.Encoding.{Encoding}
 use Rattle.lsp_answers.specs.Edits.{edits}
 use Rattle.lsp_answers.specs.Queries.{QueryValue}
 

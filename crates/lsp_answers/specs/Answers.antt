@@ -1,7 +1,7 @@
 -- The answer to a query about a document.
 use Rattle.json.specs.Json.{Json}
-use Rattle.lsp_settings.specs.Settings.{Settings}
-use Rattle.lsp_texts.specs.declared.counting.Encoding.{Encoding}
+use Rattle.lsp_answers.specs.Settings.{Settings}
+use Rattle.lsp_messages.specs.declared.counting.Encoding.{Encoding}
 use Rattle.lsp_answers.specs.Actions.{actions}
 use Rattle.lsp_answers.specs.Edits.{formatting}
 use Rattle.lsp_answers.specs.Hovers.{hover}

@@ -7,11 +7,11 @@ use Rattle.text_bytes.specs.Text.{Text}
 use Rattle.text_tables.specs.Texts.{same_text}
 use Rattle.json.specs.Json.{Json, string}
 use Rattle.text_json.specs.Values.{array_of, object_of}
-use Rattle.rule_format.specs.Mended.{mended}
-use Rattle.lsp_diagnostics.specs.Documents.{kind_of}
+use Rattle.rule_places.specs.Mended.{mended}
+use Rattle.lsp_answers.specs.Documents.{kind_of}
 use Rattle.lsp_messages.specs.Positions.{range_value}
-use Rattle.lsp_texts.specs.Rows.{position_of}
-use Rattle.lsp_texts.specs.declared.counting.Encoding.{Encoding}
+use Rattle.lsp_messages.specs.Rows.{position_of}
+use Rattle.lsp_messages.specs.declared.counting.Encoding.{Encoding}
 use Rattle.lsp_answers.specs.Queries.{QueryValue, origin}
 
 -- the edit that puts a text in the place of a whole one

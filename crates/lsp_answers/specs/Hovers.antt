@@ -5,8 +5,8 @@ use Rattle.text_bytes.specs.Text.{Text}
 use Rattle.json.specs.Json.{Json, null, string}
 use Rattle.text_json.specs.Values.{object_of}
 use Rattle.file_catalogue.specs.Sections.{explanation}
-use Rattle.lsp_diagnostics.specs.Documents.{kind_of}
-use Rattle.lsp_texts.specs.declared.counting.Encoding.{Encoding}
+use Rattle.lsp_answers.specs.Documents.{kind_of}
+use Rattle.lsp_messages.specs.declared.counting.Encoding.{Encoding}
 use Rattle.lsp_words.specs.Codes.{code_at}
 use Rattle.lsp_words.specs.Meanings.{Found, meaning_at}
 use Rattle.lsp_words.specs.declared.codes.CodeWord.{CodeWord}

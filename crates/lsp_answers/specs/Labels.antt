@@ -6,12 +6,11 @@ use Rattle.text_bytes.specs.declared.source_file.FileKind.TheVariants.{Hwdb, Rul
 use Rattle.text_bytes.specs.Text.{Text}
 use Rattle.json.specs.Json.{Json, null, string}
 use Rattle.text_json.specs.Values.{array_of, object_of}
-use Rattle.lsp_diagnostics.specs.Documents.{kind_of}
+use Rattle.lsp_answers.specs.Documents.{kind_of}
 use Rattle.lsp_words.specs.Jumps.{definition_of, mark_at, references_of}
-use Rattle.lsp_words.specs.MarkValues.{MarkValue}
-use Rattle.lsp_words.specs.Marks.{marks_of}
-use Rattle.lsp_texts.specs.Rows.{rows_of}
-use Rattle.lsp_texts.specs.declared.counting.Encoding.{Encoding}
+use Rattle.lsp_words.specs.Marks.{marks_of, MarkValue}
+use Rattle.lsp_messages.specs.Rows.{rows_of}
+use Rattle.lsp_messages.specs.declared.counting.Encoding.{Encoding}
 use Rattle.lsp_answers.specs.Queries.{QueryValue}
 use Rattle.lsp_answers.specs.Spots.{row_range, spot_at}
 

@@ -1,3 +1,11 @@
+pub mod Settings
+pub mod Options
+pub mod Faults
+pub mod Severities
+pub mod Diagnostics
+pub mod Documents
+pub mod Fixes
+pub mod Begun
 pub mod Queries
 pub mod Given
 pub mod Spots

@@ -3,8 +3,8 @@ use Rattle.std.specs.Prelude.{ℕ, List, [], ◌∷◌, Option, Some, None, code
 use Rattle.text_bytes.specs.Text.{Text}
 use Rattle.json.specs.Json.{Json, string}
 use Rattle.text_json.specs.Values.{array_of, number_value, object_of}
-use Rattle.lsp_diagnostics.specs.Documents.{kind_of}
-use Rattle.lsp_texts.specs.declared.counting.Encoding.{Encoding}
+use Rattle.lsp_answers.specs.Documents.{kind_of}
+use Rattle.lsp_messages.specs.declared.counting.Encoding.{Encoding}
 use Rattle.lsp_words.specs.Completions.{Offer, completions_at}
 use Rattle.lsp_words.specs.Entries.{Row}
 use Rattle.lsp_words.specs.declared.kinds.WordKind.{WordKind}

@@ -7,9 +7,9 @@ use Rattle.json.specs.Json.{Json}
 use Rattle.lsp_messages.specs.Parameters.{PlacedValue, RangedValue, includes_declaration, placed_of, ranged_of, uri_of}
 use Rattle.lsp_messages.specs.declared.errors.ErrorCode.{ErrorCode}
 use Rattle.lsp_messages.specs.declared.errors.ErrorCode.TheVariants.{InvalidParams, MethodNotFound}
-use Rattle.lsp_texts.specs.declared.documents.Document.{Document}
-use Rattle.lsp_texts.specs.declared.documents.Document.TheVariants.{InStep, OutOfStep}
-use Rattle.lsp_texts.specs.declared.rows.Position.{Position}
+use Rattle.lsp_messages.specs.declared.documents.Document.{Document}
+use Rattle.lsp_messages.specs.declared.documents.Document.TheVariants.{InStep, OutOfStep}
+use Rattle.lsp_messages.specs.declared.rows.Position.{Position}
 use Rattle.lsp_answers.specs.declared.queries.Method.{Method}
 use Rattle.lsp_answers.specs.declared.queries.Method.TheVariants.{Actions, Completion, Definition, Formatting, Hover, References, Symbols}
 use Rattle.lsp_answers.specs.declared.queries.Query.{Query}

@@ -4,10 +4,10 @@ use Rattle.text_bytes.specs.Numbers.{capped}
 use Rattle.text_bytes.specs.Text.{Text}
 use Rattle.json.specs.Json.{Json}
 use Rattle.lsp_messages.specs.Positions.{range_value}
-use Rattle.lsp_texts.specs.Rows.{row_at, start_of}
-use Rattle.lsp_texts.specs.Units.{fitting, units}
-use Rattle.lsp_texts.specs.declared.counting.Encoding.{Encoding}
-use Rattle.lsp_texts.specs.declared.rows.Position.{Position}
+use Rattle.lsp_messages.specs.Rows.{row_at, start_of}
+use Rattle.lsp_messages.specs.Units.{fitting, units}
+use Rattle.lsp_messages.specs.declared.counting.Encoding.{Encoding}
+use Rattle.lsp_messages.specs.declared.rows.Position.{Position}
 
 -- the number of a row, its bytes without its end, and a place among them
 pub record Spot : Type 0 where

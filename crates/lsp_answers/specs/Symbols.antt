@@ -4,13 +4,13 @@ use Rattle.text_bytes.specs.Text.{Text}
 use Rattle.json.specs.Json.{Json}
 use Rattle.text_json.specs.Told.{told}
 use Rattle.text_json.specs.Values.{array_of, number_value, object_of}
-use Rattle.lsp_diagnostics.specs.Documents.{kind_of}
+use Rattle.lsp_answers.specs.Documents.{kind_of}
 use Rattle.lsp_words.specs.Symbols.{symbols_of}
 use Rattle.lsp_words.specs.declared.symbols.Symbol.{Symbol}
 use Rattle.lsp_words.specs.declared.symbols.SymbolKind.{SymbolKind}
 use Rattle.lsp_words.specs.declared.symbols.SymbolKind.TheVariants.{Label, Record, Rule}
-use Rattle.lsp_texts.specs.Rows.{rows_of}
-use Rattle.lsp_texts.specs.declared.counting.Encoding.{Encoding}
+use Rattle.lsp_messages.specs.Rows.{rows_of}
+use Rattle.lsp_messages.specs.declared.counting.Encoding.{Encoding}
 use Rattle.lsp_answers.specs.Labels.{row_numbered}
 use Rattle.lsp_answers.specs.Queries.{QueryValue}
 use Rattle.lsp_answers.specs.Spots.{row_range}

@@ -7,11 +7,11 @@ ghost use Rattle.lsp_answers.specs.Edits.{edits};
 ghost use Rattle.lsp_answers.specs.Queries.{shown};
 
 use crate::edits::{mended_text, write_whole_edit};
+use crate::fixes::{begin_action, end_action, write_fixes};
 use crate::queries::Query;
+use crate::settings::Settings;
 use json::Writer;
-use lsp_diagnostics::{begin_action, end_action, write_fixes};
-use lsp_settings::Settings;
-use lsp_texts::Encoding;
+use lsp_messages::Encoding;
 use std::alloc::{AllocError, Global};
 
 /// What an action that mends style is called.

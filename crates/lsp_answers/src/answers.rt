@@ -10,10 +10,10 @@ use crate::hovers::write_hover;
 use crate::labels::{write_definition, write_references};
 use crate::offers::write_completion;
 use crate::queries::{Method, Query};
+use crate::settings::Settings;
 use crate::symbols::write_symbols;
 use json::Writer;
-use lsp_settings::Settings;
-use lsp_texts::Encoding;
+use lsp_messages::Encoding;
 use std::alloc::{AllocError, Global};
 
 /// Writes the answer to a query, with characters counted in this encoding.

@@ -5,12 +5,11 @@ ghost use Rattle.json.specs.Tree.{json_tokens};
 ghost use Rattle.lsp_answers.specs.Edits.{changes, formatting, mended_text, whole_edit};
 ghost use Rattle.lsp_answers.specs.Queries.{shown};
 
+use crate::documents::kind_of;
 use crate::queries::Query;
 use json::Writer;
-use lsp_diagnostics::kind_of;
-use lsp_messages::write_range;
-use lsp_texts::{Encoding, Position, Rows};
-use rule_format::mended_rules;
+use lsp_messages::{Encoding, Position, Rows, write_range};
+use rule_places::mended_rules;
 use std::alloc::{AllocError, Global};
 use text_bytes::{FileKind, is_utf8};
 

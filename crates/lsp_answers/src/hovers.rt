@@ -1,16 +1,16 @@
 //! What is told about the word at a place.
 ghost use Rattle.std.specs.Prelude.{◌≡◌, ◌≤◌, ◌++◌, OnOk, length, option_map};
 ghost use Rattle.json.specs.Tree.{json_tokens};
-ghost use Rattle.lsp_words.specs.Shown.{shown as shown_meaning};
+ghost use Rattle.lsp_words.specs.Meanings.{shown as shown_meaning};
 ghost use Rattle.lsp_answers.specs.Hovers.{found_at, found_in_comment, hover, markdown, section_found, told_value};
 ghost use Rattle.lsp_answers.specs.Queries.{shown};
 
+use crate::documents::kind_of;
 use crate::queries::Query;
 use crate::spots::{Spot, spot_at, write_row_range};
 use file_catalogue::explanation;
 use json::Writer;
-use lsp_diagnostics::kind_of;
-use lsp_texts::Encoding;
+use lsp_messages::Encoding;
 use lsp_words::{CodeWord, Meaning, code_at, meaning_at};
 use std::alloc::{AllocError, Global};
 use text_bytes::FileKind;

@@ -3,15 +3,15 @@ ghost use Rattle.std.specs.Prelude.{◌≡◌, ◌++◌, IfOk, OnOk, map, option
 ghost use Rattle.json.specs.Tree.{json_tokens};
 ghost use Rattle.text_json.specs.Listed.{value_tokens};
 ghost use Rattle.lsp_answers.specs.Labels.{definition, label_asked, location_value, mark_asked, marks_asked, marks_in, references, row_numbered};
-ghost use Rattle.lsp_diagnostics.specs.Documents.{kind_of};
+ghost use Rattle.lsp_answers.specs.Documents.{kind_of};
 ghost use Rattle.lsp_answers.specs.Queries.{shown};
-ghost use Rattle.lsp_texts.specs.Rows.{rows_of};
+ghost use Rattle.lsp_messages.specs.Rows.{rows_of};
 
+use crate::documents::kind_of;
 use crate::queries::Query;
 use crate::spots::{spot_at, write_row_range};
 use json::Writer;
-use lsp_diagnostics::kind_of;
-use lsp_texts::{Encoding, Rows};
+use lsp_messages::{Encoding, Rows};
 use lsp_words::{Mark, definition_of, mark_at, marks_of, references_of};
 use std::alloc::{AllocError, Global};
 use text_bytes::FileKind;

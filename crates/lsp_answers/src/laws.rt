@@ -10,13 +10,13 @@ ghost use Rattle.lsp_answers.specs.Edits.{formatting, mended_text};
 ghost use Rattle.lsp_answers.specs.Labels.{definition, references};
 ghost use Rattle.lsp_answers.specs.Queries.{QueryValue, method_name, method_of, origin, query_of};
 ghost use Rattle.lsp_answers.specs.declared.queries.Method.{Method};
-ghost use Rattle.lsp_diagnostics.specs.Documents.{kind_of};
+ghost use Rattle.lsp_answers.specs.Documents.{kind_of};
 ghost use Rattle.lsp_messages.specs.declared.errors.ErrorCode.TheVariants.{MethodNotFound};
-ghost use Rattle.lsp_texts.specs.Changes.{changed};
-ghost use Rattle.lsp_texts.specs.Rows.{position_of};
-ghost use Rattle.lsp_texts.specs.declared.counting.Encoding.{Encoding};
-ghost use Rattle.lsp_texts.specs.declared.documents.Document.{Document};
-ghost use Rattle.lsp_texts.specs.declared.documents.Document.TheVariants.{InStep};
+ghost use Rattle.lsp_messages.specs.TextChanges.{changed};
+ghost use Rattle.lsp_messages.specs.Rows.{position_of};
+ghost use Rattle.lsp_messages.specs.declared.counting.Encoding.{Encoding};
+ghost use Rattle.lsp_messages.specs.declared.documents.Document.{Document};
+ghost use Rattle.lsp_messages.specs.declared.documents.Document.TheVariants.{InStep};
 
 /// Each method is found by its name.
 pub fn methods_are_found_by_their_names()

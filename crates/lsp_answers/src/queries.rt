@@ -6,8 +6,10 @@ ghost use Rattle.lsp_answers.specs.Queries.{method_name, method_of, query_in, qu
 ghost use Rattle.lsp_answers.specs.Given.{GivesQuery};
 
 use json::Value;
-use lsp_messages::{ErrorCode, Ranged, includes_declaration, placed_of, ranged_of, uri_of};
-use lsp_texts::{Document, Documents, Position};
+use lsp_messages::{
+    Document, Documents, ErrorCode, Position, Ranged, includes_declaration, placed_of, ranged_of,
+    uri_of,
+};
 
 /// A method that is about a document.
 #[derive(Clone, Copy, PartialEq, Eq)]

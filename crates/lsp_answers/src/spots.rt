@@ -4,8 +4,7 @@ ghost use Rattle.json.specs.Tree.{json_tokens};
 ghost use Rattle.lsp_answers.specs.Spots.{position_in, row_range, spot_at};
 
 use json::Writer;
-use lsp_messages::write_range;
-use lsp_texts::{Encoding, Position, Rows, fitting, units};
+use lsp_messages::{Encoding, Position, Rows, fitting, units, write_range};
 use std::alloc::{AllocError, Global};
 use std::marker::Model;
 

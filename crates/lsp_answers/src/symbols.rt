@@ -5,12 +5,12 @@ ghost use Rattle.text_json.specs.Listed.{value_tokens};
 ghost use Rattle.lsp_answers.specs.Queries.{shown};
 ghost use Rattle.lsp_answers.specs.Symbols.{symbol_number, symbol_value, symbols};
 
+use crate::documents::kind_of;
 use crate::labels::{row_numbered, rows_of};
 use crate::queries::Query;
 use crate::spots::write_row_range;
 use json::Writer;
-use lsp_diagnostics::kind_of;
-use lsp_texts::Encoding;
+use lsp_messages::Encoding;
 use lsp_words::{Symbol, SymbolKind, symbols_of};
 use std::alloc::{AllocError, Global};
 use text_json::{write_number, write_told};

@@ -2,7 +2,7 @@
 use Rattle.std.proofs.Common.{◌≡◌, ℕ, suc, List, [], ◌∷◌, ◌++◌, Option, Some, None, length, option_and_then, option_map, refl, ap, ◌∙◌}
 use Rattle.json.specs.Json.{Json}
 use Rattle.text_json.specs.Values.{items_of}
-use Rattle.lsp_texts.specs.ChangeValues.{ChangeValue}
+use Rattle.lsp_messages.specs.ChangeValues.{ChangeValue}
 use Rattle.lsp_messages.specs.Changes.{change_of, changes_in}
 
 -- a change before others, of which there are none

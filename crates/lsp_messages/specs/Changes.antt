@@ -4,8 +4,8 @@ use Rattle.json.specs.Json.{Json, Items, no_items, item}
 use Rattle.json.specs.Find.{as_array, get, is_null}
 use Rattle.lsp_messages.specs.Parameters.{string_at}
 use Rattle.lsp_messages.specs.Positions.{range_of}
-use Rattle.lsp_texts.specs.ChangeValues.{ChangeValue}
-use Rattle.lsp_texts.specs.declared.rows.Position.{Position}
+use Rattle.lsp_messages.specs.ChangeValues.{ChangeValue}
+use Rattle.lsp_messages.specs.declared.rows.Position.{Position}
 
 -- the range of a change: none if the member is not there or null, and otherwise it has to be a range
 abbrev pub change_range : Option Json → Option (Option (Position × Position))

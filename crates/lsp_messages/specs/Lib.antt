@@ -1,3 +1,12 @@
+pub mod Units
+pub mod Starts
+pub mod Whole
+pub mod Rows
+pub mod Places
+pub mod ChangeValues
+pub mod TextChanges
+pub mod Documents
+pub mod Examples
 pub mod Numbers
 pub mod Positions
 pub mod Messages

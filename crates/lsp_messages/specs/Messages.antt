@@ -1,5 +1,6 @@
 -- What a client sent, by the members of its object.
 use Rattle.std.specs.Prelude.{Bool, true, false, ◌&&◌, ◌||◌, is_some, if◌then◌else◌, Option, Some, None, codes, option_map, ⊤}
+use Rattle.std.specs.Option.{option_map_or}
 use Rattle.text_bytes.specs.Text.{Text}
 use Rattle.json.specs.Json.{Json, null, boolean, number, string, array, object}
 use Rattle.json.specs.Find.{as_str, get}
@@ -36,19 +37,15 @@ abbrev pub called : Option Json → Text → Option Json → MessageValue
 called None method params = notification method params
 called (Some id) method params = if is_id id then request id method params else invalid
 
--- what a value is by its member `method`: it has to be a string
-abbrev pub named : Json → Option Text → MessageValue
-named value None = invalid
-named value (Some method) = called (get (codes "id") value) method (get (codes "params") value)
+-- what a value without a method is: a response if it has an id, and a result or an error
+abbrev pub unnamed : Json → MessageValue
+unnamed value =
+    if (is_some (get (codes "result") value) || is_some (get (codes "error") value)) && is_some (get (codes "id") value) then response else invalid
 
--- whether a value without a method is a response: it has an id, and a result or an error
-abbrev pub is_response : Json → Bool
-is_response value = is_some (get (codes "id") value) && (is_some (get (codes "result") value) || is_some (get (codes "error") value))
-
--- what a value is by its member `method`, if it has one
+-- what a value is by its member `method`, which has to be a string if it is there
 abbrev pub message_by : Json → Option Json → MessageValue
-message_by value (Some name) = named value (as_str name)
-message_by value None = if is_response value then response else invalid
+message_by value None = unnamed value
+message_by value (Some name) = option_map_or (λ method. called (get (codes "id") value) method (get (codes "params") value)) (as_str name) invalid
 
 -- what a value is as a message
 unfoldable pub message_of : Json → MessageValue

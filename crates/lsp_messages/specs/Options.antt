@@ -1,8 +1,9 @@
 -- The options that a client gives when it begins.
-use Rattle.std.specs.Prelude.{List, [], ◌∷◌, Option, Some, None, codes, map, option_and_then, option_map}
+use Rattle.std.specs.Prelude.{List, [], ◌∷◌, Option, Some, None, codes, if◌then◌else◌, map, option_and_then, option_map}
+use Rattle.std.specs.Option.{option_map_or}
 use Rattle.text_bytes.specs.Text.{Text}
-use Rattle.json.specs.Json.{Json, null, boolean, number, string, array, object, Items, no_items, item}
-use Rattle.json.specs.Find.{as_str, get}
+use Rattle.json.specs.Json.{Json, Items, no_items, item}
+use Rattle.json.specs.Find.{as_array, as_str, get, is_null}
 use Rattle.lsp_messages.specs.declared.options.Options.{Options}
 use Rattle.lsp_messages.specs.declared.options.Options.TheVariants.{Absent, Words, Malformed}
 
@@ -22,20 +23,11 @@ abbrev pub strings_in : Items → Option (List Text)
 strings_in no_items = Some []
 strings_in (item value values) = option_and_then (λ text. option_map (λ texts. text ∷ texts) (strings_in values)) (as_str value)
 
--- what options are by the strings that they are
-abbrev pub given_options : Option (List Text) → OptionsValue
-given_options None = malformed
-given_options (Some texts) = words texts
-
 -- what a member `options` is
 abbrev pub options_in : Option Json → OptionsValue
 options_in None = absent
-options_in (Some null) = absent
-options_in (Some (boolean b)) = malformed
-options_in (Some (number s)) = malformed
-options_in (Some (string s)) = malformed
-options_in (Some (array js)) = given_options (strings_in js)
-options_in (Some (object ms)) = malformed
+options_in (Some value) =
+    if is_null value then absent else option_map_or words (option_and_then strings_in (as_array value)) malformed
 
 -- the member that has the options
 abbrev pub options_given : Json → Option Json

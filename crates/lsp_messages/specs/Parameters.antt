@@ -7,19 +7,15 @@ use Rattle.lsp_messages.specs.Positions.{number_at, position_at, range_of}
 use Rattle.lsp_messages.specs.declared.parameters.Opened.{Opened}
 use Rattle.lsp_messages.specs.declared.parameters.Placed.{Placed}
 use Rattle.lsp_messages.specs.declared.parameters.Ranged.{Ranged}
-use Rattle.lsp_texts.specs.declared.rows.Position.{Position}
+use Rattle.lsp_messages.specs.declared.rows.Position.{Position}
 
 -- the string that a member is
 abbrev pub string_at : Text → Json → Option Text
 string_at name value = option_and_then as_str (get name value)
 
--- the document that parameters are about
-abbrev pub document_of : Json → Option Json
-document_of params = get (codes "textDocument") params
-
 -- the URI of the document that parameters are about
 unfoldable pub uri_of : Json → Option Text
-uri_of params = option_and_then (string_at (codes "uri")) (document_of params)
+uri_of params = option_and_then (string_at (codes "uri")) (get (codes "textDocument") params)
 
 -- the version that a document has: the numbers of the protocol are below 2^31
 abbrev pub version_in : Json → Option ℕ
@@ -27,7 +23,7 @@ version_in document = option_and_then (λ number. if nat_lt number (2 ^ 31) then
 
 -- the version of the document that parameters are about
 unfoldable pub version_of : Json → Option ℕ
-version_of params = option_and_then version_in (document_of params)
+version_of params = option_and_then version_in (get (codes "textDocument") params)
 
 -- a document that was opened
 pub record OpenedValue : Type 0 where
@@ -40,19 +36,15 @@ pub record OpenedValue : Type 0 where
 abbrev pub opened_shown : Opened → OpenedValue
 opened_shown o = record { uri = o.uri.now; language = option_map (λ t. t.now) o.language; version = o.version; text = o.text.now }
 
--- the document that a value is: it has to have a URI and a text
-abbrev pub opened_in : Json → Option OpenedValue
-opened_in document =
-    option_and_then (λ uri. option_map (λ text. record {
+-- the document that parameters say was opened: it has to have a URI and a text
+unfoldable pub opened_of : Json → Option OpenedValue
+opened_of params =
+    option_and_then (λ document. option_and_then (λ uri. option_map (λ text. record {
       uri = uri;
       language = string_at (codes "languageId") document;
       version = version_in document;
       text = text;
-    }) (string_at (codes "text") document)) (string_at (codes "uri") document)
-
--- the document that parameters say was opened
-unfoldable pub opened_of : Json → Option OpenedValue
-opened_of params = option_and_then opened_in (document_of params)
+    }) (string_at (codes "text") document)) (string_at (codes "uri") document)) (get (codes "textDocument") params)
 
 -- a place in a document
 pub record PlacedValue : Type 0 where
@@ -82,11 +74,7 @@ ranged_of params =
     option_and_then (λ uri. option_map (λ range. record { uri = uri; start = range.0; end = range.1 })
     (option_and_then range_of (get (codes "range") params))) (uri_of params)
 
--- what parameters say about the declaration
-abbrev pub declaration_asked : Json → Option Bool
-declaration_asked params =
-    option_and_then (λ context. option_and_then as_bool (get (codes "includeDeclaration") context)) (get (codes "context") params)
-
 -- whether parameters ask for the declaration beside the references
 unfoldable pub includes_declaration : Json → Bool
-includes_declaration params = unwrap_or (declaration_asked params) false
+includes_declaration params =
+    unwrap_or (option_and_then as_bool (option_and_then (get (codes "includeDeclaration")) (get (codes "context") params))) false

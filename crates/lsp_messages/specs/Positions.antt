@@ -2,19 +2,15 @@
 use Rattle.std.specs.Prelude.{ℕ, [], ◌∷◌, Option, codes, option_and_then, option_map}
 use Rattle.text_bytes.specs.Text.{Text}
 use Rattle.text_bytes.specs.Numbers.{capped}
-use Rattle.json.specs.Json.{Json, string}
+use Rattle.json.specs.Json.{Json}
 use Rattle.json.specs.Find.{as_number, get}
 use Rattle.text_json.specs.Values.{number_value, object_of}
 use Rattle.lsp_messages.specs.Numbers.{whole_number}
-use Rattle.lsp_texts.specs.declared.rows.Position.{Position}
+use Rattle.lsp_messages.specs.declared.rows.Position.{Position}
 
--- the whole number that a value is, if it is one: at most 2^32 - 1, which is past the end of each row and of each text
-abbrev pub number_of : Json → Option ℕ
-number_of value = option_map capped (option_and_then whole_number (as_number value))
-
--- the number that a member is
+-- the whole number that a member is, if it is one: at most 2^32 - 1, which is past the end of each row and of each text
 abbrev pub number_at : Text → Json → Option ℕ
-number_at name value = option_and_then number_of (get name value)
+number_at name value = option_map capped (option_and_then whole_number (option_and_then as_number (get name value)))
 
 -- the position of a line and a character in it
 abbrev pub place : ℕ → ℕ → Position
@@ -39,11 +35,3 @@ position_value position = object_of ((codes "line", number_value position.line) 
 -- a range as a value
 unfoldable pub range_value : Position → Position → Json
 range_value start end = object_of ((codes "start", position_value start) ∷ (codes "end", position_value end) ∷ [])
-
--- a range of a document as a value
-unfoldable pub location_value : Text → Position → Position → Json
-location_value uri start end = object_of ((codes "uri", string uri) ∷ (codes "range", range_value start end) ∷ [])
-
--- a text in place of a range, as a value
-unfoldable pub edit_value : Position → Position → Text → Json
-edit_value start end text = object_of ((codes "range", range_value start end) ∷ (codes "newText", string text) ∷ [])

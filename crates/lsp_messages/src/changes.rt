@@ -1,12 +1,14 @@
 //! The changes of a document.
-ghost use Rattle.std.specs.Prelude.{◌≡◌, IfOk, Some, option_map};
+ghost use Rattle.std.specs.Prelude.{◌≡◌, IfOk, codes, option_map};
+ghost use Rattle.json.specs.Find.{get};
 ghost use Rattle.json.specs.Value.{items_view, value_view};
 ghost use Rattle.lsp_messages.specs.Changes.{change_of, change_range, changes_in, changes_of};
 
 use crate::parameters::string_at;
 use crate::positions::range_of;
+use crate::rows::Position;
+use crate::text_changes::Change;
 use json::Value;
-use lsp_texts::{Change, Position};
 use std::alloc::{AllocError, Global};
 
 /// The changes that the parameters of `textDocument/didChange` have, in order: `contentChanges`. None if that is not an array,
@@ -47,26 +49,16 @@ fn change_of<'a>(value: &Value<'a>) -> Option<Change<'a>>
     ensures { result ≡ change_of (value_view value.now) }
 {
     let text = string_at(value, "text")?;
-    let range = change_range(value.get("range"))?;
+    let range = change_range(value)?;
     Some(Change::new(range, text.as_bytes()))
 }
 
 /// The range of a change: none without the member or if it is null, and otherwise it has to be a range.
-fn change_range(value: Option<&Value<'_>>) -> Option<Option<(Position, Position)>>
-    ensures { result ≡ change_range (option_map (λ v. value_view v.now) value.entry) }
+fn change_range(change: &Value<'_>) -> Option<Option<(Position, Position)>>
+    ensures { result ≡ change_range (get (codes "range") (value_view change.now)) }
 {
-    match value {
-        None => Some(None),
-        Some(value) => given_range(value),
+    match change.get("range") {
+        None | Some(Value::Null) => Some(None),
+        Some(range) => Some(Some(range_of(range)?)),
     }
-}
-
-/// The range that a member is, none if it is null.
-fn given_range(value: &Value<'_>) -> Option<Option<(Position, Position)>>
-    ensures { result ≡ change_range (Some (value_view value.now)) }
-{
-    if value.is_null() {
-        return Some(None);
-    }
-    Some(Some(range_of(value)?))
 }

@@ -30,7 +30,7 @@ pub enum ErrorCode {
 
 impl ErrorCode {
     /// The number of the error.
-    pub fn number(self) -> i64
+    fn number(self) -> i64
         ensures { result ≡ code_number self }
     {
         match self {

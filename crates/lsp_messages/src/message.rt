@@ -1,9 +1,9 @@
 //! What a client sent, by its members.
-ghost use Rattle.std.specs.Prelude.{◌≡◌, codes, if◌then◌else◌, is_some, option_map};
+ghost use Rattle.std.specs.Prelude.{◌≡◌, codes};
 ghost use Rattle.json.specs.Find.{get};
 ghost use Rattle.json.specs.Tree.{HasNumbers};
 ghost use Rattle.json.specs.Value.{value_view};
-ghost use Rattle.lsp_messages.specs.Messages.{IdHasNumbers, called, is_id, invalid, is_response, message_of, named, response, shown};
+ghost use Rattle.lsp_messages.specs.Messages.{IdHasNumbers, called, message_of, shown, unnamed};
 
 use json::Value;
 
@@ -41,18 +41,10 @@ pub fn message_of<'v, 'a>(value: &'v Value<'a>) -> Message<'v, 'a>
     // What is the id of a request can be written, if all that was sent can.
     ensures numbers { HasNumbers (value_view value.now) → IdHasNumbers (shown result) }
 {
-    match value.get("method") {
-        Some(name) => named(value, name.as_str()),
-        None => unnamed(value),
-    }
-}
-
-/// What a value is by its method, which has to be a string.
-fn named<'v, 'a>(value: &'v Value<'a>, method: Option<&'a str>) -> Message<'v, 'a>
-    ensures message { shown result ≡ named (value_view value.now) (option_map (λ t. t.now) method.entry) }
-    ensures numbers { HasNumbers (value_view value.now) → IdHasNumbers (shown result) }
-{
-    match method {
+    let Some(name) = value.get("method") else {
+        return unnamed(value);
+    };
+    match name.as_str() {
         Some(method) => called(value, method),
         None => Message::Invalid,
     }
@@ -64,50 +56,24 @@ fn called<'v, 'a>(value: &'v Value<'a>, method: &'a str) -> Message<'v, 'a>
     ensures numbers { HasNumbers (value_view value.now) → IdHasNumbers (shown result) }
 {
     let params = value.get("params");
-    match value.get("id") {
-        None => Message::Notification { method, params },
-        Some(id) => {
-            if is_id(id) {
-                Message::Request { id, method, params }
-            } else {
-                Message::Invalid
-            }
-        }
+    let Some(id) = value.get("id") else {
+        return Message::Notification { method, params };
+    };
+    match id {
+        Value::Number(_) | Value::String(_) => Message::Request { id, method, params },
+        _ => Message::Invalid,
     }
 }
 
 /// What a value without a method is.
 fn unnamed<'v, 'a>(value: &'v Value<'a>) -> Message<'v, 'a>
-    ensures message { shown result ≡ (if is_response (value_view value.now) then response else invalid) }
+    ensures message { shown result ≡ unnamed (value_view value.now) }
     ensures numbers { IdHasNumbers (shown result) }
 {
-    if is_response(value) {
+    let answers = value.get("result").is_some() || value.get("error").is_some();
+    if answers && value.get("id").is_some() {
         Message::Response
     } else {
         Message::Invalid
     }
-}
-
-/// Whether a value can be an id.
-fn is_id(value: &Value<'_>) -> bool
-    ensures { result ≡ is_id (value_view value.now) }
-{
-    match value {
-        Value::Number(_) | Value::String(_) => true,
-        _ => false,
-    }
-}
-
-/// Whether a value without a method is a response.
-fn is_response(value: &Value<'_>) -> bool
-    ensures { result ≡ is_response (value_view value.now) }
-{
-    has(value, "id") && (has(value, "result") || has(value, "error"))
-}
-
-/// Whether a value has a member.
-fn has(value: &Value<'_>, name: &str) -> bool
-    ensures { result ≡ is_some (get name.now (value_view value.now)) }
-{
-    value.get(name).is_some()
 }

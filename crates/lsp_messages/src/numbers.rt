@@ -1,6 +1,5 @@
 //! The whole numbers that JSON writes, with a point or an exponent, too: `1.0` and `1e0` are 1.
 ghost use Rattle.std.specs.Prelude.{◌≡◌, ◌-◌, ◌^◌, drop, min, option_map};
-ghost use Rattle.std.specs.Str.Parse.{digits_value};
 ghost use Rattle.fast_float.specs.Text.{point_at};
 ghost use Rattle.text_bytes.specs.Numbers.{capped};
 ghost use Rattle.lsp_messages.specs.Numbers.{are_zeros, is_whole, unsigned, whole_number};
@@ -8,23 +7,16 @@ ghost use Rattle.lsp_messages.specs.Numbers.{are_zeros, is_whole, unsigned, whol
 use fast_float::{Numeral, parse_u64};
 use text_bytes::{begins_with, capped};
 
-/// The exponent of a number without its sign, at most 2^64 - 1.
-fn exponent(number: &Numeral<'_>) -> u64
-    ensures { result ≡ min (digits_value 10 number.now.exponent) (2 ^ 64 - 1) }
-{
-    let digits = number.exponent();
-    if digits.is_empty() {
-        return 0;
-    }
-    parse_u64(digits).unwrap_or(u64::MAX)
-}
-
 /// How many digits stand before the point once the exponent has moved it, at most 2^64 - 1.
 fn point_at(number: &Numeral<'_>) -> usize
     ensures { result ≡ min (point_at number.now) (2 ^ 64 - 1) }
 {
     let before = number.whole().len();
-    let exponent = exponent(number) as usize;
+    let digits = number.exponent();
+    if digits.is_empty() {
+        return before;
+    }
+    let exponent = parse_u64(digits).unwrap_or(u64::MAX) as usize;
     if number.is_exponent_negative() {
         before.saturating_sub(exponent)
     } else {

@@ -1,7 +1,8 @@
 //! The options that a client gives when it begins.
-ghost use Rattle.std.specs.Prelude.{◌≡◌, IfOk, Some, option_map};
+ghost use Rattle.std.specs.Prelude.{◌≡◌, IfOk, option_map};
+ghost use Rattle.std.specs.Option.{option_map_or};
 ghost use Rattle.json.specs.Value.{items_view, value_view};
-ghost use Rattle.lsp_messages.specs.Options.{given_options, options_given, options_in, options_of, options_shown, strings_in};
+ghost use Rattle.lsp_messages.specs.Options.{malformed, options_given, options_of, options_shown, strings_in, words};
 
 use json::Value;
 use std::alloc::{AllocError, Global};
@@ -24,8 +25,9 @@ pub fn options_of<'a>(alloc: Global, params: &Value<'a>) -> Result<Options<'a>, 
     ensures { IfOk result (λ options. options_shown options ≡ options_of (value_view params.now)) }
 {
     match options_given(params) {
-        Some(value) => options_in(alloc, value),
-        None => Ok(Options::Absent),
+        None | Some(Value::Null) => Ok(Options::Absent),
+        Some(Value::Array(values)) => words_in(alloc, values),
+        Some(_) => Ok(Options::Malformed),
     }
 }
 
@@ -36,20 +38,9 @@ fn options_given<'v, 'a>(params: &'v Value<'a>) -> Option<&'v Value<'a>>
     params.get("initializationOptions")?.get("options")
 }
 
-/// The options that a value is.
-fn options_in<'a>(alloc: Global, value: &Value<'a>) -> Result<Options<'a>, AllocError>
-    ensures { IfOk result (λ options. options_shown options ≡ options_in (Some (value_view value.now))) }
-{
-    match value {
-        Value::Null => Ok(Options::Absent),
-        Value::Array(values) => given_options(alloc, values),
-        _ => Ok(Options::Malformed),
-    }
-}
-
-/// The options that values are, each of which has to be a string.
-fn given_options<'a>(alloc: Global, values: &[Value<'a>]) -> Result<Options<'a>, AllocError>
-    ensures { IfOk result (λ options. options_shown options ≡ given_options (strings_in (items_view values.now))) }
+/// The words that values are, each of which has to be a string.
+fn words_in<'a>(alloc: Global, values: &[Value<'a>]) -> Result<Options<'a>, AllocError>
+    ensures { IfOk result (λ options. options_shown options ≡ option_map_or words (strings_in (items_view values.now)) malformed) }
 {
     let mut words = Vec::new(alloc);
     for value in values {

@@ -1,12 +1,12 @@
 //! The parameters of requests and notifications.
 ghost use Rattle.std.specs.Prelude.{◌≡◌, option_map};
 ghost use Rattle.json.specs.Value.{value_view};
-ghost use Rattle.lsp_messages.specs.Parameters.{declaration_asked, includes_declaration, opened_in, opened_of, opened_shown, placed_of, placed_shown};
+ghost use Rattle.lsp_messages.specs.Parameters.{includes_declaration, opened_of, opened_shown, placed_of, placed_shown};
 ghost use Rattle.lsp_messages.specs.Parameters.{ranged_of, ranged_shown, string_at, uri_of, version_in, version_of};
 
 use crate::positions::{number_at, position_at, range_of};
+use crate::rows::Position;
 use json::Value;
-use lsp_texts::Position;
 
 /// The numbers of the protocol are below this, 2^31.
 const NUMBERS: u32 = 0x8000_0000;
@@ -45,7 +45,7 @@ pub struct Ranged<'a> {
 }
 
 /// The string that a member of a value is.
-pub fn string_at<'a>(value: &Value<'a>, name: &str) -> Option<&'a str>
+pub(crate) fn string_at<'a>(value: &Value<'a>, name: &str) -> Option<&'a str>
     ensures { option_map (λ t. t.now) result ≡ string_at name.now (value_view value.now) }
 {
     value.get(name)?.as_str()
@@ -81,13 +81,7 @@ pub fn version_of(params: &Value<'_>) -> Option<u32>
 pub fn opened_of<'a>(params: &Value<'a>) -> Option<Opened<'a>>
     ensures { option_map opened_shown result ≡ opened_of (value_view params.now) }
 {
-    opened_in(params.get("textDocument")?)
-}
-
-/// The document that a value is.
-fn opened_in<'a>(document: &Value<'a>) -> Option<Opened<'a>>
-    ensures { option_map opened_shown result ≡ opened_in (value_view document.now) }
-{
+    let document = params.get("textDocument")?;
     let uri = string_at(document, "uri")?;
     let text = string_at(document, "text")?;
     let language = string_at(document, "languageId");
@@ -125,12 +119,11 @@ pub fn ranged_of<'a>(params: &Value<'a>) -> Option<Ranged<'a>>
 pub fn includes_declaration(params: &Value<'_>) -> bool
     ensures { result ≡ includes_declaration (value_view params.now) }
 {
-    declaration_asked(params).unwrap_or(false)
-}
-
-/// What parameters say about the declaration.
-fn declaration_asked(params: &Value<'_>) -> Option<bool>
-    ensures { result ≡ declaration_asked (value_view params.now) }
-{
-    params.get("context")?.get("includeDeclaration")?.as_bool()
+    let Some(context) = params.get("context") else {
+        return false;
+    };
+    match context.get("includeDeclaration") {
+        Some(Value::Bool(asked)) => *asked,
+        _ => false,
+    }
 }

@@ -2,50 +2,37 @@
 ghost use Rattle.std.specs.Prelude.{◌≡◌, ◌++◌, OnOk};
 ghost use Rattle.json.specs.Tree.{json_tokens};
 ghost use Rattle.json.specs.Value.{value_view};
-ghost use Rattle.lsp_messages.specs.Positions.{edit_value, location_value, number_at, number_of, position_at};
-ghost use Rattle.lsp_messages.specs.Positions.{position_of, position_value, range_of, range_value};
+ghost use Rattle.lsp_messages.specs.Positions.{number_at, position_at, position_value, range_of, range_value};
 
 use crate::numbers::whole_number;
+use crate::rows::Position;
 use json::{Value, Writer};
-use lsp_texts::Position;
 use std::alloc::AllocError;
-use text_json::{write_number, write_word};
+use text_json::write_number;
 
-/// The number that a value is, if it is a whole one that is not below zero; 2^32 - 1 for a greater one.
-pub(crate) fn number_of(value: &Value<'_>) -> Option<u32>
-    ensures { result ≡ number_of (value_view value.now) }
-{
-    let text = value.as_number()?;
-    whole_number(text.as_bytes())
-}
-
-/// The number that a member is.
+/// The number that a member is, if it is a whole one that is not below zero; 2^32 - 1 for a greater one.
 pub(crate) fn number_at(value: &Value<'_>, name: &str) -> Option<u32>
     ensures { result ≡ number_at name.now (value_view value.now) }
 {
-    number_of(value.get(name)?)
+    let number = value.get(name)?;
+    let text = number.as_number()?;
+    whole_number(text.as_bytes())
 }
 
-/// The position that a value is: its members `line` and `character`, each a whole number that is not below zero.
+/// The position that a member is: its members `line` and `character`, each a whole number that is not below zero.
 #[tactic(auto, unfolding(crate::specs::Positions::position_of))]
-pub fn position_of(value: &Value<'_>) -> Option<Position>
-    ensures { result ≡ position_of (value_view value.now) }
-{
-    let line = number_at(value, "line")?;
-    let character = number_at(value, "character")?;
-    Some(Position { line, character })
-}
-
-/// The position that a member is.
 pub(crate) fn position_at(value: &Value<'_>, name: &str) -> Option<Position>
     ensures { result ≡ position_at name.now (value_view value.now) }
 {
-    position_of(value.get(name)?)
+    let position = value.get(name)?;
+    let line = number_at(position, "line")?;
+    let character = number_at(position, "character")?;
+    Some(Position { line, character })
 }
 
 /// The range that a value is: its members `start` and `end`, each a position.
 #[tactic(auto, unfolding(crate::specs::Positions::range_of))]
-pub fn range_of(value: &Value<'_>) -> Option<(Position, Position)>
+pub(crate) fn range_of(value: &Value<'_>) -> Option<(Position, Position)>
     ensures { result ≡ range_of (value_view value.now) }
 {
     let start = position_at(value, "start")?;
@@ -55,7 +42,7 @@ pub fn range_of(value: &Value<'_>) -> Option<(Position, Position)>
 
 /// Writes a position as a value.
 #[tactic(auto, unfolding(crate::specs::Positions::position_value))]
-pub fn write_position(writer: &mut Writer, position: Position) -> Result<(), AllocError>
+fn write_position(writer: &mut Writer, position: Position) -> Result<(), AllocError>
     ensures tokens { OnOk result (writer.new.tokens ≡ writer.old.tokens ++ json_tokens (position_value position)) }
     ensures before { OnOk result (writer.new.before ≡ writer.old.before) }
 {
@@ -77,44 +64,6 @@ pub fn write_range(writer: &mut Writer, start: Position, end: Position) -> Resul
     write_position(writer, start)?;
     writer.key("end")?;
     write_position(writer, end)?;
-    writer.end_object()?;
-    Ok(())
-}
-
-/// Writes a range of a document as a value.
-#[tactic(auto, unfolding(crate::specs::Positions::location_value))]
-pub fn write_location(
-    writer: &mut Writer,
-    uri: &str,
-    start: Position,
-    end: Position,
-) -> Result<(), AllocError>
-    ensures tokens { OnOk result (writer.new.tokens ≡ writer.old.tokens ++ json_tokens (location_value uri.now start end)) }
-    ensures before { OnOk result (writer.new.before ≡ writer.old.before) }
-{
-    writer.begin_object()?;
-    write_word(writer, "uri", uri)?;
-    writer.key("range")?;
-    write_range(writer, start, end)?;
-    writer.end_object()?;
-    Ok(())
-}
-
-/// Writes a text in place of a range as a value.
-#[tactic(auto, unfolding(crate::specs::Positions::edit_value))]
-pub fn write_edit(
-    writer: &mut Writer,
-    start: Position,
-    end: Position,
-    text: &str,
-) -> Result<(), AllocError>
-    ensures tokens { OnOk result (writer.new.tokens ≡ writer.old.tokens ++ json_tokens (edit_value start end text.now)) }
-    ensures before { OnOk result (writer.new.before ≡ writer.old.before) }
-{
-    writer.begin_object()?;
-    writer.key("range")?;
-    write_range(writer, start, end)?;
-    write_word(writer, "newText", text)?;
     writer.end_object()?;
     Ok(())
 }

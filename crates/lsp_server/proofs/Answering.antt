@@ -11,7 +11,7 @@ use Rattle.lsp_messages.specs.Options.{options_of}
 use Rattle.lsp_messages.specs.Responses.{error_of}
 use Rattle.lsp_messages.specs.declared.errors.ErrorCode.{ErrorCode}
 use Rattle.lsp_messages.specs.declared.errors.ErrorCode.TheVariants.{InvalidParams, InvalidRequest, ServerNotInitialized}
-use Rattle.lsp_settings.specs.Settings.{Settings}
+use Rattle.lsp_answers.specs.Settings.{Settings}
 use Rattle.lsp_server.specs.Beginning.{begun, begun_with, encoding_of, settings_asked}
 use Rattle.lsp_server.specs.Capabilities.{initialized}
 use Rattle.lsp_server.specs.Contents.{answered, requested, shut_down}

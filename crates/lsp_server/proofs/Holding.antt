@@ -5,16 +5,16 @@ use Rattle.std.specs.Str.{bytes_eq}
 use Rattle.text_tables.specs.Pairs.{value_of}
 use Rattle.text_bytes.specs.Text.{Text}
 use Rattle.json.specs.Json.{Json}
-use Rattle.lsp_sessions.specs.declared.frames.Item.{Item}
-use Rattle.lsp_sessions.specs.declared.frames.Item.TheVariants.{Content, NoFrame, TooLong}
+use Rattle.lsp_server.specs.declared.frames.Item.{Item}
+use Rattle.lsp_server.specs.declared.frames.Item.TheVariants.{Content, NoFrame, TooLong}
 use Rattle.lsp_messages.specs.Changes.{changes_of}
 use Rattle.lsp_messages.specs.Messages.{MessageValue, invalid, message_of, notification, request, response}
 use Rattle.lsp_messages.specs.Parameters.{OpenedValue, opened_of, uri_of, version_of}
-use Rattle.lsp_texts.proofs.Holding.{held_without, still_held}
-use Rattle.lsp_texts.specs.ChangeValues.{ChangeValue}
-use Rattle.lsp_texts.specs.Documents.{may_be_held, text_after}
-use Rattle.lsp_texts.specs.declared.documents.Document.{Document}
-use Rattle.lsp_texts.specs.declared.documents.Document.TheVariants.{InStep, OutOfStep}
+use Rattle.lsp_messages.proofs.Holding.{held_without, still_held}
+use Rattle.lsp_messages.specs.ChangeValues.{ChangeValue}
+use Rattle.lsp_messages.specs.Documents.{may_be_held, text_after}
+use Rattle.lsp_messages.specs.declared.documents.Document.{Document}
+use Rattle.lsp_messages.specs.declared.documents.Document.TheVariants.{InStep, OutOfStep}
 use Rattle.lsp_server.proofs.Answering.{request_answered}
 use Rattle.lsp_server.specs.Contents.{notified, step_by, step_of, told_of, value_of_content, step}
 use Rattle.lsp_server.specs.Documents.{changed, changed_by, changed_to, closed, lost, opened}

@@ -14,11 +14,11 @@ use Rattle.lsp_messages.specs.Options.{options_of}
 use Rattle.lsp_messages.specs.Parameters.{RangedValue}
 use Rattle.lsp_messages.specs.declared.errors.ErrorCode.{ErrorCode}
 use Rattle.lsp_messages.specs.declared.errors.ErrorCode.TheVariants.{InvalidParams, InvalidRequest, ServerNotInitialized}
-use Rattle.lsp_settings.specs.Settings.{Settings}
-use Rattle.lsp_texts.proofs.Holding.{others_found, own_found}
-use Rattle.lsp_texts.specs.Documents.{may_be_held, with_document}
-use Rattle.lsp_texts.specs.declared.documents.Document.{Document}
-use Rattle.lsp_texts.specs.declared.documents.Document.TheVariants.{OutOfStep}
+use Rattle.lsp_answers.specs.Settings.{Settings}
+use Rattle.lsp_messages.proofs.Holding.{others_found, own_found}
+use Rattle.lsp_messages.specs.Documents.{may_be_held, with_document}
+use Rattle.lsp_messages.specs.declared.documents.Document.{Document}
+use Rattle.lsp_messages.specs.declared.documents.Document.TheVariants.{OutOfStep}
 use Rattle.lsp_server.specs.Beginning.{begun, begun_with, settings_asked}
 use Rattle.lsp_server.specs.Contents.{answered, requested, shut_down}
 use Rattle.lsp_server.specs.Errors.{error_for}

@@ -9,11 +9,11 @@ use Rattle.text_tables.specs.Texts.{same_text}
 use Rattle.json.specs.Json.{Json}
 use Rattle.lsp_messages.specs.Changes.{changes_of}
 use Rattle.lsp_messages.specs.Parameters.{OpenedValue, opened_of, uri_of, version_of}
-use Rattle.lsp_texts.proofs.Holding.{others_found}
-use Rattle.lsp_texts.specs.ChangeValues.{ChangeValue}
-use Rattle.lsp_texts.specs.Documents.{text_after}
-use Rattle.lsp_texts.specs.declared.documents.Document.{Document}
-use Rattle.lsp_texts.specs.declared.documents.Document.TheVariants.{InStep, OutOfStep}
+use Rattle.lsp_messages.proofs.Holding.{others_found}
+use Rattle.lsp_messages.specs.ChangeValues.{ChangeValue}
+use Rattle.lsp_messages.specs.Documents.{text_after}
+use Rattle.lsp_messages.specs.declared.documents.Document.{Document}
+use Rattle.lsp_messages.specs.declared.documents.Document.TheVariants.{InStep, OutOfStep}
 use Rattle.lsp_server.specs.Contents.{notified}
 use Rattle.lsp_server.specs.Documents.{changed, changed_by, changed_to, closed, lost, opened}
 use Rattle.lsp_server.specs.Servers.{Server, Step, is_silent}

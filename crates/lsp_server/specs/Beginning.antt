@@ -7,10 +7,10 @@ use Rattle.lsp_messages.specs.Offers.{offers_utf8}
 use Rattle.lsp_messages.specs.Options.{OptionsValue, absent, words, malformed, options_of}
 use Rattle.lsp_messages.specs.Responses.{error_of, response_of}
 use Rattle.lsp_messages.specs.declared.errors.ErrorCode.TheVariants.{InvalidParams}
-use Rattle.lsp_settings.specs.Options.{settings_of}
-use Rattle.lsp_settings.specs.Settings.{Settings, strict}
-use Rattle.lsp_texts.specs.declared.counting.Encoding.{Encoding}
-use Rattle.lsp_texts.specs.declared.counting.Encoding.TheVariants.{Utf16, Utf8}
+use Rattle.lsp_answers.specs.Options.{settings_of}
+use Rattle.lsp_answers.specs.Settings.{Settings, strict}
+use Rattle.lsp_messages.specs.declared.counting.Encoding.{Encoding}
+use Rattle.lsp_messages.specs.declared.counting.Encoding.TheVariants.{Utf16, Utf8}
 use Rattle.lsp_server.specs.Capabilities.{initialized}
 use Rattle.lsp_server.specs.Errors.{error_for, said_of}
 use Rattle.lsp_server.specs.Servers.{Server, Step, sends}

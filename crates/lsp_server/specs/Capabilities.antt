@@ -3,8 +3,8 @@ use Rattle.std.specs.Prelude.{[], ◌∷◌, codes, true}
 use Rattle.text_bytes.specs.Text.{Text}
 use Rattle.json.specs.Json.{Json, boolean, string}
 use Rattle.text_json.specs.Values.{array_of, number_value, object_of}
-use Rattle.lsp_texts.specs.declared.counting.Encoding.{Encoding}
-use Rattle.lsp_texts.specs.declared.counting.Encoding.TheVariants.{Utf16, Utf8}
+use Rattle.lsp_messages.specs.declared.counting.Encoding.{Encoding}
+use Rattle.lsp_messages.specs.declared.counting.Encoding.TheVariants.{Utf16, Utf8}
 
 -- the name of an encoding
 abbrev pub encoding_name : Encoding → Text

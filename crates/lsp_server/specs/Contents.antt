@@ -6,8 +6,8 @@ use Rattle.text_bytes.specs.Text.{Text}
 use Rattle.json.specs.Json.{Json, document, null}
 use Rattle.lsp_answers.specs.Answers.{answer}
 use Rattle.lsp_answers.specs.Queries.{QueryValue, query_of}
-use Rattle.lsp_sessions.specs.declared.frames.Item.{Item}
-use Rattle.lsp_sessions.specs.declared.frames.Item.TheVariants.{Content, NoFrame, TooLong}
+use Rattle.lsp_server.specs.declared.frames.Item.{Item}
+use Rattle.lsp_server.specs.declared.frames.Item.TheVariants.{Content, NoFrame, TooLong}
 use Rattle.lsp_messages.specs.Changes.{changes_of}
 use Rattle.lsp_messages.specs.Messages.{MessageValue, invalid, message_of, notification, request, response}
 use Rattle.lsp_messages.specs.Parameters.{opened_of, uri_of, version_of}

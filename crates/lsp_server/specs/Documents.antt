@@ -5,13 +5,13 @@ use Rattle.text_bytes.specs.Text.{Text}
 use Rattle.json.specs.Json.{Json}
 use Rattle.text_json.specs.Told.{told}
 use Rattle.text_json.specs.Values.{array_of, number_value, object_of}
-use Rattle.lsp_diagnostics.specs.Documents.{about_whole, document_diagnostics}
+use Rattle.lsp_answers.specs.Documents.{about_whole, document_diagnostics}
 use Rattle.lsp_messages.specs.Parameters.{OpenedValue}
 use Rattle.lsp_messages.specs.Responses.{notification_of}
-use Rattle.lsp_texts.specs.ChangeValues.{ChangeValue}
-use Rattle.lsp_texts.specs.Documents.{may_be_held, text_after, with_document}
-use Rattle.lsp_texts.specs.declared.documents.Document.{Document}
-use Rattle.lsp_texts.specs.declared.documents.Document.TheVariants.{InStep, OutOfStep}
+use Rattle.lsp_messages.specs.ChangeValues.{ChangeValue}
+use Rattle.lsp_messages.specs.Documents.{may_be_held, text_after, with_document}
+use Rattle.lsp_messages.specs.declared.documents.Document.{Document}
+use Rattle.lsp_messages.specs.declared.documents.Document.TheVariants.{InStep, OutOfStep}
 use Rattle.lsp_server.specs.Servers.{Server, Step, is_silent}
 use Rattle.lsp_server.specs.declared.publishing.Reason.{Reason}
 use Rattle.lsp_server.specs.declared.publishing.Reason.TheVariants as because

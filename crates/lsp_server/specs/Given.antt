@@ -4,7 +4,7 @@ use Rattle.text_bytes.specs.Text.{Text}
 use Rattle.json.specs.Json.{Json}
 use Rattle.json.specs.Print.{print}
 use Rattle.json.specs.Tree.{json_tokens}
-use Rattle.lsp_sessions.specs.Framed.{framed}
+use Rattle.lsp_server.specs.Framed.{framed}
 use Rattle.lsp_server.specs.Servers.{Server, Step}
 
 -- a value as a content

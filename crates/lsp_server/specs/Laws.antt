@@ -3,13 +3,13 @@ use Rattle.std.specs.Prelude.{◌≡◌, ◌⊎◌, List, [], ◌∷◌, fold, O
 use Rattle.text_bytes.specs.Text.{Text}
 use Rattle.text_tables.specs.Pairs.{without_name}
 use Rattle.json.specs.Json.{Json}
-use Rattle.lsp_sessions.specs.declared.frames.Item.{Item}
+use Rattle.lsp_server.specs.declared.frames.Item.{Item}
 use Rattle.lsp_messages.specs.Parameters.{OpenedValue}
 use Rattle.lsp_messages.specs.Responses.{error_of, response_of}
 use Rattle.lsp_messages.specs.declared.errors.ErrorCode.{ErrorCode}
-use Rattle.lsp_texts.specs.Documents.{with_document}
-use Rattle.lsp_texts.specs.declared.documents.Document.{Document}
-use Rattle.lsp_texts.specs.declared.documents.Document.TheVariants.{InStep, OutOfStep}
+use Rattle.lsp_messages.specs.Documents.{with_document}
+use Rattle.lsp_messages.specs.declared.documents.Document.{Document}
+use Rattle.lsp_messages.specs.declared.documents.Document.TheVariants.{InStep, OutOfStep}
 use Rattle.lsp_server.specs.Replies.{after}
 use Rattle.lsp_server.specs.Servers.{Server}
 

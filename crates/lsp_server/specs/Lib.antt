@@ -1,3 +1,14 @@
+pub mod Examples
+pub mod FrameLaws
+pub mod Framed
+pub mod Headers
+pub mod Held
+pub mod Inputs
+pub mod Items
+pub mod Outcomes
+pub mod Runs
+pub mod AnyServer
+pub mod Taking
 pub mod Servers
 pub mod Capabilities
 pub mod Errors

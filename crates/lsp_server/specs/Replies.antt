@@ -4,11 +4,11 @@ use Rattle.text_bytes.specs.Text.{Text}
 use Rattle.json.specs.Json.{Json}
 use Rattle.json.specs.Print.{print}
 use Rattle.json.specs.Tree.{json_tokens}
-use Rattle.lsp_sessions.specs.Framed.{framed}
-use Rattle.lsp_sessions.specs.declared.frames.Item.{Item}
-use Rattle.lsp_sessions.specs.declared.replying.Exit.{Exit}
-use Rattle.lsp_sessions.specs.declared.replying.Exit.TheVariants.{AfterShutdown, WithoutShutdown}
-use Rattle.lsp_sessions.specs.declared.replying.Reply.{Reply}
+use Rattle.lsp_server.specs.Framed.{framed}
+use Rattle.lsp_server.specs.declared.frames.Item.{Item}
+use Rattle.lsp_server.specs.declared.replying.Exit.{Exit}
+use Rattle.lsp_server.specs.declared.replying.Exit.TheVariants.{AfterShutdown, WithoutShutdown}
+use Rattle.lsp_server.specs.declared.replying.Reply.{Reply}
 use Rattle.lsp_server.specs.Contents.{exits, step}
 use Rattle.lsp_server.specs.Servers.{Server}
 use Rattle.lsp_server.specs.declared.server.Phase.{Phase}

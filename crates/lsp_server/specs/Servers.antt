@@ -2,10 +2,10 @@
 use Rattle.std.specs.Prelude.{List, [], Option, Some, None}
 use Rattle.text_bytes.specs.Text.{Text}
 use Rattle.json.specs.Json.{Json}
-use Rattle.lsp_settings.specs.Settings.{Settings, strict}
-use Rattle.lsp_texts.specs.declared.documents.Document.{Document}
-use Rattle.lsp_texts.specs.declared.counting.Encoding.{Encoding}
-use Rattle.lsp_texts.specs.declared.counting.Encoding.TheVariants.{Utf16}
+use Rattle.lsp_answers.specs.Settings.{Settings, strict}
+use Rattle.lsp_messages.specs.declared.documents.Document.{Document}
+use Rattle.lsp_messages.specs.declared.counting.Encoding.{Encoding}
+use Rattle.lsp_messages.specs.declared.counting.Encoding.TheVariants.{Utf16}
 use Rattle.lsp_server.specs.declared.server.Phase.{Phase}
 use Rattle.lsp_server.specs.declared.server.Phase.TheVariants.{Fresh}
 

@@ -7,7 +7,7 @@ ghost use Rattle.text_json.specs.Told.{told_text};
 ghost use Rattle.lsp_messages.specs.Options.{options_of};
 ghost use Rattle.lsp_messages.specs.Responses.{error_of, response_of};
 ghost use Rattle.lsp_messages.specs.declared.errors.ErrorCode.TheVariants.{InvalidParams};
-ghost use Rattle.lsp_settings.specs.Faults.{AnswersWords};
+ghost use Rattle.lsp_answers.specs.Faults.{AnswersWords};
 ghost use Rattle.lsp_server.specs.Beginning.{begun, begun_with, encoding_of, settings_asked};
 ghost use Rattle.lsp_server.specs.Capabilities.{initialized};
 ghost use Rattle.lsp_server.specs.Given.{Gives};
@@ -16,9 +16,10 @@ use crate::capabilities::write_initialized;
 use crate::errors::error_for;
 use crate::server::{Phase, Server};
 use json::{Value, Writer};
-use lsp_messages::{ErrorCode, Options, begin_response, error_response, offers_utf8, options_of};
-use lsp_settings::{Settings, SettingsFault, settings_of};
-use lsp_texts::Encoding;
+use lsp_answers::{Settings, SettingsFault, settings_of};
+use lsp_messages::{
+    Encoding, ErrorCode, Options, begin_response, error_response, offers_utf8, options_of,
+};
 use std::alloc::{AllocError, Global};
 use text_bytes::Bytes;
 use text_json::told;

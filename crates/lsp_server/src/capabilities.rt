@@ -5,7 +5,7 @@ ghost use Rattle.json.specs.Tree.{json_tokens};
 ghost use Rattle.lsp_server.specs.Capabilities.{capabilities, code_actions, completion, encoding_name, initialized, server_info, synchronization};
 
 use json::Writer;
-use lsp_texts::Encoding;
+use lsp_messages::Encoding;
 use std::alloc::AllocError;
 use text_json::{write_number, write_word};
 

@@ -10,8 +10,7 @@ ghost use Rattle.text_tables.specs.Pairs.{value_of};
 use crate::publishing::{Reason, not_held, published, unpublished};
 use crate::server::Server;
 use json::Value;
-use lsp_messages::{changes_of, opened_of, uri_of, version_of};
-use lsp_texts::{Change, Document};
+use lsp_messages::{Change, Document, changes_of, opened_of, uri_of, version_of};
 use std::alloc::{AllocError, Global};
 use text_bytes::Bytes;
 

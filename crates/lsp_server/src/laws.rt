@@ -7,8 +7,8 @@ ghost use Rattle.text_tables.specs.Texts.{is_among, same_text};
 ghost use Rattle.json.specs.Json.{Json};
 ghost use Rattle.lsp_answers.specs.Answers.{answer};
 ghost use Rattle.lsp_answers.specs.Queries.{QueryValue, query_of};
-ghost use Rattle.lsp_sessions.specs.declared.frames.Item.{Item};
-ghost use Rattle.lsp_sessions.specs.declared.frames.Item.TheVariants.{Content, NoFrame, TooLong};
+ghost use Rattle.lsp_server.specs.declared.frames.Item.{Item};
+ghost use Rattle.lsp_server.specs.declared.frames.Item.TheVariants.{Content, NoFrame, TooLong};
 ghost use Rattle.lsp_messages.specs.Changes.{changes_of};
 ghost use Rattle.lsp_messages.specs.Messages.{notification, request};
 ghost use Rattle.lsp_messages.specs.Options.{options_of};
@@ -24,11 +24,11 @@ ghost use Rattle.lsp_server.specs.Laws.{IsAnswerTo, after_all, as_document, docu
 ghost use Rattle.lsp_server.specs.Servers.{Server, first, sends};
 ghost use Rattle.lsp_server.specs.declared.publishing.Reason.TheVariants as because;
 ghost use Rattle.lsp_server.specs.declared.server.Phase.TheVariants.{Down, Fresh, Running};
-ghost use Rattle.lsp_settings.specs.Settings.{Settings};
-ghost use Rattle.lsp_texts.specs.ChangeValues.{ChangeValue};
-ghost use Rattle.lsp_texts.specs.Documents.{has_whole, may_be_held, text_after};
-ghost use Rattle.lsp_texts.specs.declared.documents.Document.{Document};
-ghost use Rattle.lsp_texts.specs.declared.documents.Document.TheVariants.{InStep, OutOfStep};
+ghost use Rattle.lsp_answers.specs.Settings.{Settings};
+ghost use Rattle.lsp_messages.specs.ChangeValues.{ChangeValue};
+ghost use Rattle.lsp_messages.specs.Documents.{has_whole, may_be_held, text_after};
+ghost use Rattle.lsp_messages.specs.declared.documents.Document.{Document};
+ghost use Rattle.lsp_messages.specs.declared.documents.Document.TheVariants.{InStep, OutOfStep};
 
 /// Each request is answered with its id, and changes no document.
 pub fn requests_are_answered()

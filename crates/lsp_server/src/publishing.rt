@@ -7,7 +7,7 @@ ghost use Rattle.lsp_server.specs.Documents.{not_held, published, reason_said, u
 
 use crate::server::Server;
 use json::Writer;
-use lsp_diagnostics::{write_about_whole, write_document_diagnostics};
+use lsp_answers::{write_about_whole, write_document_diagnostics};
 use lsp_messages::begin_notification;
 use std::alloc::{AllocError, Global};
 use text_json::{write_number, write_told};

@@ -1,6 +1,6 @@
 //! What the server replies to each frame.
 ghost use Rattle.std.specs.Prelude.{◌≡◌, if◌then◌else◌, false, IfOk, None, Some, option_map};
-ghost use Rattle.lsp_sessions.specs.declared.frames.Item.{Item};
+ghost use Rattle.lsp_server.specs.declared.frames.Item.{Item};
 ghost use Rattle.lsp_server.specs.Contents.{exits, step};
 ghost use Rattle.lsp_server.specs.Errors.{error_for};
 ghost use Rattle.lsp_server.specs.Given.{GivesSome, framed_content, written};
@@ -8,9 +8,11 @@ ghost use Rattle.lsp_server.specs.Replies.{after, exit_by, reply};
 
 use crate::contents::Outcome;
 use crate::errors::error_for;
+use crate::frames::Item;
+use crate::framing::push_framed;
+use crate::replying::{Exit, Reply, Replying};
 use crate::server::{Phase, Server};
 use lsp_messages::ErrorCode;
-use lsp_sessions::{Exit, Item, Reply, Replying, push_framed};
 use std::alloc::{AllocError, Global};
 use text_bytes::Bytes;
 

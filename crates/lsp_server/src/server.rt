@@ -2,8 +2,8 @@
 ghost use Rattle.std.specs.Prelude.{◌≡◌};
 ghost use Rattle.lsp_server.specs.Servers.{first};
 
-use lsp_settings::Settings;
-use lsp_texts::{Documents, Encoding};
+use lsp_answers::Settings;
+use lsp_messages::{Documents, Encoding};
 use std::alloc::Global;
 use std::marker::Model;
 

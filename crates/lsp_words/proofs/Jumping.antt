@@ -7,8 +7,8 @@ use Rattle.std.proofs.lemmas.Bool.{and_parts, and_from, ltb-true, lt-ltb, not-tr
 use Rattle.std.proofs.lemmas.List.Elements.{All-nil, All-cons, All-head, All-tail, All-weaker, filter-append, filter_passes}
 use Rattle.std.proofs.lemmas.Option.{IfSome_then}
 use Rattle.lsp_words.specs.Jumps.{definition_of, is_goal, is_goto, is_reference, is_same, references_of}
-use Rattle.lsp_words.specs.MarkLaws.{IsGoalOf}
-use Rattle.lsp_words.specs.MarkValues.{MarkValue}
+use Rattle.lsp_words.specs.Laws.{IsGoalOf}
+use Rattle.lsp_words.specs.Marks.{MarkValue}
 use Rattle.lsp_words.specs.declared.marks.MarkKind.{MarkKind}
 use Rattle.lsp_words.specs.declared.marks.MarkKind.TheVariants.{Label, Goto}
 

@@ -1,22 +1,23 @@
 -- Which rows an outline lists, and by which names.
-use Rattle.std.proofs.Common.{◌≡◌, ℕ, Bool, true, false, not, ◌&&◌, List, [], ◌∷◌, Option, Some, None, Ok, Err, refl, ap}
+use Rattle.std.proofs.Common.{◌≡◌, ℕ, Bool, true, false, not, ◌&&◌, ◌||◌, List, [], ◌∷◌, Option, Some, None, Ok, Err, refl, ap}
 use Rattle.std.specs.Prelude.{All, IfSome, if◌then◌else◌, filter_map}
 use Rattle.std.specs.List.{list_all}
+use Rattle.std.specs.Option.{option_map_or}
 use Rattle.std.proofs.lemmas.Bool.{and_parts}
 use Rattle.std.proofs.lemmas.List.Elements.{All-head}
-use Rattle.text_bytes.specs.Names.{is_blank}
-use Rattle.text_bytes.specs.Texts.{first, is_empty, trimmed}
+use Rattle.text_bytes.specs.Names.{is_blank, space, tab}
+use Rattle.text_bytes.specs.Texts.{begins_with, first, is_empty, trimmed}
 use Rattle.text_bytes.specs.declared.source_file.FileKind.{FileKind}
 use Rattle.text_bytes.specs.declared.source_file.FileKind.TheVariants.{Hwdb, Rules}
 use Rattle.text_bytes.specs.Text.{Text}
 use Rattle.rule_tokens.specs.Grammar.{Item}
 use Rattle.lsp_words.specs.Marks.{mark_kind}
 use Rattle.lsp_words.specs.Rows.{body, is_comment, items_in, stripped}
-use Rattle.lsp_words.specs.Symbols.{begun_rule, is_indented, is_record, is_shown, label_by, label_in, label_of}
-use Rattle.lsp_words.specs.Symbols.{matched, named_rule, record_name, record_symbol, rule_name, rule_symbol, symbol, symbol_in}
+use Rattle.lsp_words.specs.Symbols.{begun_rule, is_record, is_shown, label_by, label_in, label_of}
+use Rattle.lsp_words.specs.Symbols.{matched, record_name, record_symbol, rule_name, rule_symbol, symbol, symbol_in}
 use Rattle.lsp_words.specs.declared.marks.MarkKind.{MarkKind}
 use Rattle.lsp_words.specs.declared.marks.MarkKind.TheVariants as mark
-use Rattle.lsp_words.specs.declared.symbols.SymbolKind.TheVariants.{Record}
+use Rattle.lsp_words.specs.declared.symbols.SymbolKind.TheVariants.{Label, Record, Rule}
 use Rattle.lsp_words.proofs.RowLemmas.{blanks_gone, body_blank, comment_empty}
 use Rattle.lsp_words.proofs.Written.{all_made}
 
@@ -106,7 +107,7 @@ rule_name_some row e = by (is_empty (matched row)) refl
 
 -- and the entry of a rule
 named_some : (line : ℕ) (row : Text) (o : Option Text) → is_shown (body row) ≡ true
-    → IfSome o (λ t. is_empty t ≡ false) → is_empty (named_rule line row o).name ≡ false
+    → IfSome o (λ t. is_empty t ≡ false) → is_empty (option_map_or (symbol Label line) o (symbol Rule line (rule_name row))).name ≡ false
 named_some line row None e h = rule_name_some row e
 named_some line row (Some name) e h = h
 
@@ -123,7 +124,7 @@ unfolding record_symbol
 record_named line row = by (is_record row) refl
   where
     by : (b : Bool) → is_record row ≡ b → IfSome (if b then Some (symbol Record line (record_name row)) else None) (λ s. is_empty s.name ≡ false)
-    by true e = shown_some (record_name row) (and_parts (not (is_indented row)) (is_shown (record_name row)) e).1
+    by true e = shown_some (record_name row) (and_parts (not (begins_with space row || begins_with tab row)) (is_shown (record_name row)) e).1
     by false e = tt
 
 pub entries_named : (kind : FileKind) (line : ℕ) (goes_on : Bool) (row : Text) → IfSome (symbol_in kind line goes_on row) (λ s. is_empty s.name ≡ false)

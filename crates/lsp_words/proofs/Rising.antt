@@ -8,9 +8,8 @@ use Rattle.text_bytes.specs.Numbers.{capped}
 use Rattle.text_bytes.specs.Text.{Text}
 use Rattle.rule_tokens.specs.Grammar.{Item, Placed}
 use Rattle.lsp_words.specs.Jumps.{definition_of, is_goal}
-use Rattle.lsp_words.specs.MarkLaws.{IsGoalOf}
-use Rattle.lsp_words.specs.MarkValues.{MarkValue}
-use Rattle.lsp_words.specs.Marks.{mark_kind, mark_of, marks_from, marks_in, marks_of, placed_mark, rule_of}
+use Rattle.lsp_words.specs.Laws.{IsGoalOf}
+use Rattle.lsp_words.specs.Marks.{mark_kind, mark_of, marks_from, marks_in, marks_of, MarkValue, placed_mark, rule_of}
 use Rattle.lsp_words.specs.Rows.{goes_on_after, items_in}
 use Rattle.lsp_words.specs.declared.marks.MarkKind.{MarkKind}
 use Rattle.lsp_words.specs.declared.marks.MarkKind.TheVariants.{Goto}

@@ -11,7 +11,7 @@ use Rattle.std.proofs.lemmas.Slice.Eq.{starts_is}
 use Rattle.text_bytes.specs.Text.{Text}
 use Rattle.lsp_words.specs.Entries.{Row, entry_at, fits, is_open}
 use Rattle.lsp_words.specs.Meanings.{Found, IsTold, meaning_in, size_of, told}
-use Rattle.lsp_words.specs.Shown.{shown}
+use Rattle.lsp_words.specs.Meanings.{shown}
 use Rattle.lsp_words.specs.Tables.{entries_of}
 use Rattle.lsp_words.specs.declared.meanings.Meaning.{Meaning}
 use Rattle.lsp_words.specs.declared.slots.Slot.{Slot}

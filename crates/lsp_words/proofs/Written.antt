@@ -12,7 +12,7 @@ use Rattle.rule_tokens.specs.Lines.{items_after, items_from, items_left, items_w
 use Rattle.rule_tokens.specs.Reading.{head_at, key_at, token_at}
 use Rattle.rule_tokens.specs.Places.{IsSlice, LiesIn}
 use Rattle.rule_tokens.proofs.PlaceLemmas.{from_lie}
-use Rattle.lsp_words.specs.MarkLaws.{IsWrittenIn}
+use Rattle.lsp_words.specs.Laws.{IsWrittenIn}
 use Rattle.lsp_words.specs.Marks.{mark_kind, mark_of, marks_in, placed_mark}
 use Rattle.lsp_words.specs.Rows.{body, is_comment, items_in}
 use Rattle.lsp_words.specs.declared.marks.MarkKind.{MarkKind}

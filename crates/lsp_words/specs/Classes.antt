@@ -9,10 +9,6 @@ use Rattle.lsp_words.specs.declared.classes.Class.TheVariants.{Letter, Operator,
 abbrev pub is_operator_byte : ℕ → Bool
 is_operator_byte b = b == equals || (b == bang || (b == plus || (b == minus || b == colon)))
 
--- a byte that begins a substitution
-abbrev pub is_sign : ℕ → Bool
-is_sign b = b == dollar || b == percent
-
 -- the class of a byte
 unfoldable pub class_of : ℕ → Class
 class_of b =
@@ -25,4 +21,4 @@ class_of b =
     else (if b == backslash then Backslash
     else (if b == hash then Hash
     else (if b == bar then Bar
-    else (if is_sign b then Sign else Other)))))))))
+    else (if b == dollar || b == percent then Sign else Other)))))))))

@@ -20,16 +20,10 @@ abbrev pub is_comment : FileKind → Text → Bool
 is_comment file.Rules before = begins_with hash (unindented before)
 is_comment file.Hwdb before = list_any (λ b. b == hash) before
 
--- where the word of letters and digits is that ends a text and goes on in another
-abbrev pub word_between : Text → Text → CodeWord
-word_between before after =
-    record { start = length before - suffix_len is_ascii_alphanumeric before; end = length before + prefix_len is_ascii_alphanumeric after }
-
--- the word at a place, if it is a code in a comment
-abbrev pub code_if : FileKind → Text → Text → CodeWord → Option CodeWord
-code_if f row before word =
-    if is_comment f before && is_code (take (word.end - word.start) (drop word.start row)) then Some word else None
-
--- the code at a place of a row
+-- the word of letters and digits at a place of a row, if it is a code in a comment
 unfoldable pub code_at : FileKind → Text → ℕ → Option CodeWord
-code_at f row at = code_if f row (take at row) (word_between (take at row) (drop at row))
+code_at f row at =
+    let before = take at row in
+    let start = length before - suffix_len is_ascii_alphanumeric before in
+    let end = length before + prefix_len is_ascii_alphanumeric (drop at row) in
+    if is_comment f before && is_code (take (end - start) (drop start row)) then Some (record { start = start; end = end }) else None

@@ -1,5 +1,5 @@
 -- Where in a row of a rules file a place is, by the bytes before it.
-use Rattle.std.specs.Prelude.{ℕ, Bool, ◌&&◌, ◌||◌, ◌==◌, nat_lt, [], ◌∷◌, ◌++◌, fold, length}
+use Rattle.std.specs.Prelude.{ℕ, Bool, ◌&&◌, ◌||◌, ◌==◌, nat_lt, [], ◌∷◌, ◌++◌, drop, fold, length}
 use Rattle.std.specs.List.{list_any}
 use Rattle.text_bytes.specs.Names.{dollar}
 use Rattle.text_bytes.specs.Texts.{begins_with, is_empty}
@@ -9,6 +9,7 @@ use Rattle.lsp_words.specs.Classes.{class_of}
 use Rattle.lsp_words.specs.Moves.{go, in_braces, in_escape, in_indent, in_inner, in_later, in_name, in_value, outside}
 use Rattle.lsp_words.specs.Values.{is_split, substitutes}
 use Rattle.lsp_words.specs.declared.classes.Class.{Class}
+use Rattle.lsp_words.specs.declared.contexts.Scan.{Scan}
 use Rattle.lsp_words.specs.declared.moves.Bounds.{Bounds}
 use Rattle.lsp_words.specs.declared.moves.Move.{Move}
 use Rattle.lsp_words.specs.declared.moves.Place.{Place}
@@ -27,6 +28,18 @@ pub record Context : Type 0 where
   pub name : Text
   pub word : Text
 
+-- where the end of these bytes is, as the code has it
+abbrev pub seen : Text → Scan → Context
+seen before s = record {
+  place = s.place;
+  key = s.key.now;
+  braces = s.braces.now;
+  operator = s.operator.now;
+  prefix = s.prefix.now;
+  name = s.name.now;
+  word = drop s.start before;
+}
+
 -- where a row begins
 abbrev pub at_start : Context
 at_start = record { place = place.Indent; key = []; braces = []; operator = []; prefix = []; name = []; word = [] }
@@ -42,15 +55,8 @@ unfoldable pub bounds_for : Text → Text → Text → Text → Bounds
 bounds_for key braces operator prefix =
     record { substitutes = substitutes key braces operator; splits = is_split key; escapes = list_any (λ b. b == letter_e) prefix }
 
--- whether a letter goes on with the name of a substitution: behind a `$` any do, behind a `%` one
-abbrev pub takes_letter : Text → Bool
-takes_letter word = begins_with dollar word || length word == 1
-
--- whether a word is one byte, and this one
-abbrev pub is_byte : Text → ℕ → Bool
-is_byte word b = length word == 1 && begins_with b word
-
--- where a row goes on to at a byte
+-- Where a row goes on to at a byte. In the name of a substitution: whether the byte is the sign that it consists of, whether
+-- a letter goes on with it (behind a `$` any do, behind a `%` one), and whether it has a letter.
 unfoldable pub next_move : Place → Bounds → Text → ℕ → Class → Move
 next_move place.Indent bounds word b c = in_indent c
 next_move place.Comment bounds word b c = go place.Comment Longer
@@ -63,7 +69,8 @@ next_move place.Prefix bounds word b c = outside place.Prefix (go place.Prefix L
 next_move place.Value bounds word b c = in_value bounds (is_empty word) c
 next_move place.Later bounds word b c = in_later bounds c
 next_move place.Escape bounds word b c = in_escape bounds c
-next_move place.Name bounds word b c = in_name bounds (is_byte word b) (takes_letter word) (nat_lt 1 (length word)) c
+next_move place.Name bounds word b c =
+    in_name bounds (length word == 1 && begins_with b word) (begins_with dollar word || length word == 1) (nat_lt 1 (length word)) c
 next_move place.Inner bounds word b c = in_inner c
 
 -- what is kept of a part of a token: this text, if the word before a byte ends there

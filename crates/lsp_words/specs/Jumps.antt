@@ -2,7 +2,7 @@
 use Rattle.std.specs.Prelude.{ℕ, nat_le, nat_lt, ◌==◌, Bool, true, false, ◌&&◌, ◌||◌, not, List, filter, Option, Some, if◌then◌else◌}
 use Rattle.std.specs.List.{find}
 use Rattle.text_tables.specs.Texts.{same_text}
-use Rattle.lsp_words.specs.MarkValues.{MarkValue}
+use Rattle.lsp_words.specs.Marks.{MarkValue}
 use Rattle.lsp_words.specs.declared.marks.MarkKind.{MarkKind}
 use Rattle.lsp_words.specs.declared.marks.MarkKind.TheVariants.{Label, Goto}
 

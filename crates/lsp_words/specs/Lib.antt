@@ -6,16 +6,10 @@ pub mod Entries
 pub mod Examples
 pub mod Jumps
 pub mod Laws
-pub mod MarkExamples
-pub mod MarkLaws
-pub mod MarkValues
 pub mod Marks
 pub mod Meanings
 pub mod Moves
-pub mod Offered
 pub mod Rows
-pub mod Scans
-pub mod Shown
 pub mod Slots
 pub mod Symbols
 pub mod Tables

@@ -7,10 +7,18 @@ use Rattle.text_tables.specs.Texts.{same_text}
 use Rattle.rule_tokens.specs.Grammar.{Head, Item, Placed}
 use Rattle.rule_tokens.specs.declared.kinds.Operator.{Operator}
 use Rattle.rule_tokens.specs.declared.kinds.Operator.TheVariants.{Assign}
-use Rattle.lsp_words.specs.MarkValues.{MarkValue}
 use Rattle.lsp_words.specs.Rows.{goes_on_after, items_in}
 use Rattle.lsp_words.specs.declared.marks.MarkKind.{MarkKind}
 use Rattle.lsp_words.specs.declared.marks.MarkKind.TheVariants.{Label, Goto}
+
+-- A label or a jump: the row in which its rule begins, its own row, where its name begins and ends there, and its name.
+pub record MarkValue : Type 0 where
+  pub kind : MarkKind
+  pub rule : ℕ
+  pub line : ℕ
+  pub start : ℕ
+  pub end : ℕ
+  pub name : Text
 
 -- whether an operator is `=`
 abbrev pub is_assign : Operator → Bool
@@ -21,13 +29,9 @@ is_assign _ = false
 abbrev pub kind_of : (key : Text) → Option MarkKind
 kind_of key = if same_text key (codes "LABEL") then Some Label else if same_text key (codes "GOTO") then Some Goto else None
 
--- whether a token has `=` and nothing in braces
-abbrev pub is_plain : Head → Bool
-is_plain head = is_assign head.operator && is_none head.attribute
-
--- which mark a token is
+-- which mark a token is: it has `=`, and nothing in braces
 unfoldable pub mark_kind : Head → Option MarkKind
-mark_kind head = if is_plain head then kind_of head.key else None
+mark_kind head = if is_assign head.operator && is_none head.attribute then kind_of head.key else None
 
 -- a token as a mark: its name is between its quotes, of which the second is its last byte
 abbrev pub placed_mark : (rule line : ℕ) → Placed → MarkKind → MarkValue

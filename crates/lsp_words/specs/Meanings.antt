@@ -12,6 +12,7 @@ use Rattle.lsp_words.specs.Slots.{slot_of}
 use Rattle.lsp_words.specs.Tables.{entries_of}
 use Rattle.lsp_words.specs.declared.kinds.WordKind.{WordKind}
 use Rattle.lsp_words.specs.declared.kinds.WordKind.TheVariants as kind
+use Rattle.lsp_words.specs.declared.meanings.Meaning.{Meaning}
 use Rattle.lsp_words.specs.declared.slots.Slot.{Slot}
 
 -- a word of a row, from its first byte up to a place, and what is told about it
@@ -19,6 +20,10 @@ pub record Found : Type 0 where
   pub start : ℕ
   pub end : ℕ
   pub text : Text
+
+-- what is found, as the code has it
+abbrev pub shown : Meaning → Found
+shown m = record { start = m.start; end = m.end; text = m.text.now }
 
 -- whether a byte may be in a word of a kind
 abbrev pub is_in : WordKind → ℕ → Bool

@@ -54,21 +54,12 @@ kind_in_value (Some key.Import) braces = kind_in_import (import_type_of braces)
 kind_in_value (Some key.Run) braces = kind_in_run (run_type_of braces)
 kind_in_value _ braces = None
 
--- the substitutions that take the name of a property, and those that take the name of an attribute
-abbrev pub property_signs : List Text
-property_signs = codes "$env" ∷ codes "%E" ∷ []
-
-abbrev pub attribute_signs : List Text
-attribute_signs = codes "$attr" ∷ codes "%s" ∷ []
-
 -- what is in the braces of a substitution
 abbrev pub kind_in_name : Text → Option WordKind
 kind_in_name name =
-    if is_among property_signs name then Some kind.Property else (if is_among attribute_signs name then Some kind.Attribute else None)
-
--- which substitutions a name is begun of, by its sign
-abbrev pub kind_of_sign : Text → WordKind
-kind_of_sign word = if begins_with dollar word then kind.Substitution else kind.Letter
+    if is_among (codes "$env" ∷ codes "%E" ∷ []) name then Some kind.Property
+    else if is_among (codes "$attr" ∷ codes "%s" ∷ []) name then Some kind.Attribute
+    else None
 
 -- which words may stand at a place
 abbrev pub kind_at : Place → Context → Option WordKind
@@ -79,7 +70,7 @@ kind_at place.Braces c = kind_in_braces (key_of c.key)
 kind_at place.Head c = Some kind.Operator
 kind_at place.Operator c = Some kind.Operator
 kind_at place.Value c = kind_in_value (key_of c.key) c.braces
-kind_at place.Name c = Some (kind_of_sign c.word)
+kind_at place.Name c = if begins_with dollar c.word then Some kind.Substitution else Some kind.Letter
 kind_at place.Inner c = kind_in_name c.name
 kind_at _ c = None
 

@@ -1,6 +1,8 @@
 -- What an outline of a document lists.
 use Rattle.std.specs.Prelude.{ℕ, ◌+◌, Bool, false, ◌&&◌, ◌||◌, not, List, [], ◌∷◌, ◌++◌, codes, filter_map, fold, if◌then◌else◌}
 use Rattle.std.specs.Prelude.{Option, Some, None, Ok, Err}
+use Rattle.std.specs.List.{cons_option}
+use Rattle.std.specs.Option.{option_map_or}
 use Rattle.text_bytes.specs.Names.{hash, space, tab}
 use Rattle.text_bytes.specs.Numbers.{capped}
 use Rattle.text_bytes.specs.Texts.{begins_with, first, is_empty, trimmed, up_to}
@@ -55,14 +57,9 @@ rule_name row = if is_empty (matched row) then stripped (body row) else matched 
 abbrev pub symbol : SymbolKind → (line : ℕ) → (name : Text) → Symbol
 symbol kind line name = record { kind = kind; line = line; name = name }
 
--- the entry of a rule whose label is known
-abbrev pub named_rule : (line : ℕ) → (row : Text) → (label : Option Text) → Symbol
-named_rule line row (Some label) = symbol Label line label
-named_rule line row None = symbol Rule line (rule_name row)
-
 -- the entry of a row in which a rule begins: it is named by its label, else by its matches or the row
 abbrev pub rule_symbol : (line : ℕ) → (row : Text) → Symbol
-rule_symbol line row = named_rule line row (label_in row)
+rule_symbol line row = option_map_or (symbol Label line) (label_in row) (symbol Rule line (rule_name row))
 
 -- the entry of a row in which no rule goes on; a comment has none, nor has a row of whitespace
 unfoldable pub begun_rule : (line : ℕ) → (row : Text) → Option Symbol
@@ -72,13 +69,9 @@ begun_rule line row = if is_shown (body row) then Some (rule_symbol line row) el
 abbrev pub record_name : (row : Text) → Text
 record_name row = trimmed (up_to hash row)
 
--- whether a text begins with a space or a tab
-abbrev pub is_indented : Text → Bool
-is_indented text = begins_with space text || begins_with tab text
-
 -- whether a row of a database file is a match: it is not indented, and has more than a comment and whitespace
 abbrev pub is_record : (row : Text) → Bool
-is_record row = not (is_indented row) && is_shown (record_name row)
+is_record row = not (begins_with space row || begins_with tab row) && is_shown (record_name row)
 
 -- the entry of a row of a database file: it is a match
 unfoldable pub record_symbol : (line : ℕ) → (row : Text) → Option Symbol
@@ -89,16 +82,11 @@ abbrev pub symbol_in : FileKind → (line : ℕ) → (goes_on : Bool) → (row :
 symbol_in Hwdb line goes_on row = record_symbol line row
 symbol_in Rules line goes_on row = if goes_on then None else begun_rule line row
 
--- entries after that of the row above them, if it has one
-abbrev pub with_entry : Option Symbol → List Symbol → List Symbol
-with_entry None symbols = symbols
-with_entry (Some s) symbols = s ∷ symbols
-
 -- the entries of rows from one on
 abbrev pub symbols_from : FileKind → (line : ℕ) → (goes_on : Bool) → List Text → List Symbol
 symbols_from kind line goes_on [] = []
 symbols_from kind line goes_on (row ∷ rows) =
-    with_entry (symbol_in kind (capped line) goes_on row) (symbols_from kind (line + 1) (goes_on_after goes_on row) rows)
+    cons_option (symbol_in kind (capped line) goes_on row) (symbols_from kind (line + 1) (goes_on_after goes_on row) rows)
 
 -- the entries of all rows of a document, in order
 unfoldable pub symbols_of : FileKind → (rows : List Text) → List Symbol

@@ -1,5 +1,6 @@
 -- What the value of a token is made of, by its key, what is in the braces, and its operator.
 use Rattle.std.specs.Prelude.{Bool, true, false, not, ◌||◌, Option, Some, None, codes}
+use Rattle.std.specs.Option.{option_map_or}
 use Rattle.text_bytes.specs.Text.{Text}
 use Rattle.text_tables.specs.Texts.{same_text}
 use Rattle.rule_types.specs.Names.{import_type_of, key_of}
@@ -36,14 +37,9 @@ key_substitutes key.Seclabel braces compares = true
 key_substitutes key.Run braces compares = true
 key_substitutes _ braces compares = false
 
--- whether a value has substitutions: not if there is no such key
-abbrev pub known_substitutes : Option Key → Text → Text → Bool
-known_substitutes None braces operator = false
-known_substitutes (Some k) braces operator = key_substitutes k braces (is_comparison operator)
-
--- whether the value of a token has substitutions
+-- whether the value of a token has substitutions: not if there is no such key
 unfoldable pub substitutes : Text → Text → Text → Bool
-substitutes key braces operator = known_substitutes (key_of key) braces operator
+substitutes key braces operator = option_map_or (λ k. key_substitutes k braces (is_comparison operator)) (key_of key) false
 
 -- whether a key takes words that a bar can stand between
 abbrev pub key_splits : Option Key → Bool

@@ -1,10 +1,9 @@
 //! The code at a place of a comment.
-ghost use Rattle.std.specs.Prelude.{◌≡◌, ◌≤◌, IfSome, drop, length, take};
+ghost use Rattle.std.specs.Prelude.{◌≡◌, ◌≤◌, IfSome, length};
 ghost use Rattle.std.specs.Char.{is_ascii_alphanumeric};
 ghost use Rattle.std.specs.List.{prefix_len, suffix_len};
 ghost use Rattle.lsp_words.specs.Codes.{code_at, is_code, is_comment};
 
-use crate::slots::has;
 use text_bytes::{FileKind, begins_with, is_decimal, unindented};
 
 /// Where a code stands in a row.
@@ -53,7 +52,7 @@ fn is_comment(kind: FileKind, before: &[u8]) -> bool
 {
     match kind {
         FileKind::Rules => begins_with(b'#', unindented(before)),
-        FileKind::Hwdb => has(b'#', before),
+        FileKind::Hwdb => before.contains(&b'#'),
     }
 }
 

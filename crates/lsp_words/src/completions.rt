@@ -1,7 +1,7 @@
 //! The words that can be completed at a place of a row.
 ghost use Rattle.std.specs.Prelude.{◌≡◌, ◌≤◌, IfSome, length, option_map};
 ghost use Rattle.lsp_words.specs.Completions.{completions_at};
-ghost use Rattle.lsp_words.specs.Offered.{offered};
+ghost use Rattle.lsp_words.specs.Completions.{offered};
 
 use crate::entries::Parts;
 use crate::kinds::WordKind;

@@ -1,8 +1,7 @@
 //! Where in a row of a rules file a place is, by the bytes before it.
-ghost use Rattle.std.specs.Prelude.{◌≡◌, ◌≤◌, ◌<◌, ◌+◌, [], length, slice_index, drop, take};
+ghost use Rattle.std.specs.Prelude.{◌≡◌, ◌≤◌, ◌<◌, ◌+◌, length, slice_index, drop, take};
 ghost use Rattle.lsp_words.specs.Contexts.{braces_after, key_after, name_after, next_move, operator_after, prefix_after, step, turned};
-ghost use Rattle.lsp_words.specs.Contexts.{at_start, bounds_for, context_of, ended};
-ghost use Rattle.lsp_words.specs.Scans.{seen};
+ghost use Rattle.lsp_words.specs.Contexts.{bounds_for, context_of, ended, seen};
 
 use crate::classes::{Class, class_of};
 use crate::moves::{
@@ -161,21 +160,6 @@ fn start_after(turn: Turn, row: &[u8], start: usize, at: usize) -> usize
 }
 
 impl<'r> Scan<'r> {
-    /// The start of a row.
-    fn new() -> Scan<'r>
-        ensures { (result.start ≡ 0) × (seen [] result ≡ at_start) }
-    {
-        Scan {
-            place: Place::Indent,
-            key: &[],
-            braces: &[],
-            operator: &[],
-            prefix: &[],
-            name: &[],
-            start: 0,
-        }
-    }
-
     /// The row read a byte further.
     #[tactic(auto, unfolding(crate::specs::Contexts::step))]
     fn step(&self, row: &'r [u8], at: usize) -> Scan<'r>
@@ -206,7 +190,15 @@ pub(crate) fn scanned(row: &[u8]) -> Scan<'_>
     ensures context { seen row.now result ≡ context_of row.now }
     ensures begun { result.start ≤ length row.now }
 {
-    let mut scan = Scan::new();
+    let mut scan = Scan {
+        place: Place::Indent,
+        key: &[],
+        braces: &[],
+        operator: &[],
+        prefix: &[],
+        name: &[],
+        start: 0,
+    };
     for at in 0..row.len() {
         scan = scan.step(row, at);
     }

@@ -1,7 +1,7 @@
 //! Where jumps lead.
-ghost use Rattle.std.specs.Prelude.{◌≡◌, IfOk, map, option_copied, option_map, filter};
+ghost use Rattle.std.specs.Prelude.{◌≡◌, IfOk, map, option_copied};
 ghost use Rattle.std.specs.List.{find};
-ghost use Rattle.lsp_words.specs.Jumps.{definition_of, is_at, is_goal, is_goto, is_reference, is_same, mark_at, references_of};
+ghost use Rattle.lsp_words.specs.Jumps.{definition_of, is_at, is_goal, is_goto, mark_at, references_of};
 
 use crate::marks::{Mark, MarkKind};
 use std::alloc::{AllocError, Global};
@@ -10,17 +10,10 @@ use std::alloc::{AllocError, Global};
 fn is_goto(mark: &Mark<'_>) -> bool
     ensures { result ≡ is_goto mark.now.kind }
 {
-    match mark.kind() {
+    match mark.kind {
         MarkKind::Goto => true,
         MarkKind::Label => false,
     }
-}
-
-/// Whether two marks have one name.
-fn is_same(mark: &Mark<'_>, other: &Mark<'_>) -> bool
-    ensures { result ≡ is_same mark.now other.now }
-{
-    mark.name() == other.name()
 }
 
 /// Whether a place of a row is in the name of a mark, or directly before or after it.
@@ -42,7 +35,7 @@ pub fn mark_at<'m, 't>(marks: &'m [Mark<'t>], line: u32, at: usize) -> Option<&'
 fn is_goal(jump: &Mark<'_>, mark: &Mark<'_>) -> bool
     ensures { result ≡ is_goal jump.now mark.now }
 {
-    !is_goto(mark) && jump.rule() < mark.rule() && is_same(jump, mark)
+    !is_goto(mark) && jump.rule < mark.rule && jump.name == mark.name
 }
 
 /// The first label to which a jump may lead.
@@ -63,13 +56,6 @@ pub fn definition_of<'m, 't>(marks: &'m [Mark<'t>], mark: &'m Mark<'t>) -> Optio
     Some(mark)
 }
 
-/// Whether a mark is among the references of another one.
-fn is_reference(with_labels: bool, mark: &Mark<'_>, other: &Mark<'_>) -> bool
-    ensures { result ≡ is_reference with_labels mark.now other.now }
-{
-    (with_labels || is_goto(other)) && is_same(mark, other)
-}
-
 /// Returns the jumps of a document that have the name of a mark, and if asked the labels that have it, in order.
 pub fn references_of<'m, 't>(
     alloc: Global,
@@ -81,7 +67,7 @@ pub fn references_of<'m, 't>(
 {
     let mut found = Vec::new(alloc);
     for other in marks {
-        if is_reference(with_labels, mark, other) {
+        if (with_labels || is_goto(other)) && mark.name == other.name {
             found.push(other)?;
         }
     }

@@ -4,7 +4,7 @@
 ghost use Rattle.std.specs.Prelude.{◌≡◌, [], ◌∷◌, ◌++◌, ℕ, Option, Some, fold, length, map};
 ghost use Rattle.text_bytes.specs.Names.{dollar, percent};
 ghost use Rattle.text_bytes.specs.Text.{Text};
-ghost use Rattle.rule_templates.specs.Names.{long_names, short_names};
+ghost use Rattle.rule_tokens.specs.Names.{long_names, short_names};
 ghost use Rattle.rule_tokens.specs.Grammar.{AllAre, attribute_bytes, is_key_byte, operator_text};
 ghost use Rattle.rule_tokens.specs.declared.kinds.Operator.{Operator};
 ghost use Rattle.rule_types.specs.Builtins.{builtin_name, builtins};

@@ -68,8 +68,7 @@ pub use mark_laws::{
     jumps_without_a_label_go_nowhere, labels_mean_themselves, marks_are_written_in_their_row,
     references_have_the_name, rows_that_are_not_listed,
 };
-pub use marks::{Mark, MarkKind, marks_of, push_marks};
+pub use marks::{Mark, MarkKind, marks_of};
 pub use meanings::{Meaning, meaning_at};
-pub use rows::goes_on_after;
-pub use symbols::{Symbol, SymbolKind, symbol_in_row, symbols_of};
+pub use symbols::{Symbol, SymbolKind, symbols_of};
 pub use tables::entries_of;

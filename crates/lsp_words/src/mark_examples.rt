@@ -3,7 +3,7 @@
 //! Each function here is empty: its contract is what is true of the examples.
 ghost use Rattle.std.specs.Prelude.{◌≡◌, ◌∷◌, [], Some, None, codes, false, true};
 ghost use Rattle.text_bytes.specs.declared.source_file.FileKind.TheVariants.{Hwdb, Rules};
-ghost use Rattle.lsp_words.specs.MarkExamples.{goto, label, some_marks};
+ghost use Rattle.lsp_words.specs.Examples.{goto, label, some_marks};
 ghost use Rattle.lsp_words.specs.Jumps.{definition_of, mark_at, references_of};
 ghost use Rattle.lsp_words.specs.Marks.{marks_in, marks_of};
 ghost use Rattle.lsp_words.specs.Symbols.{symbol, symbols_of};

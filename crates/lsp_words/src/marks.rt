@@ -1,6 +1,6 @@
 //! The labels of a rules file and the jumps to them.
 ghost use Rattle.std.specs.Prelude.{◌≡◌, ◌++◌, IfOk, OnOk, map, option_map};
-ghost use Rattle.lsp_words.specs.Marks.{is_assign, kind_of, mark_kind, mark_of, marks_in, marks_of, rule_of};
+ghost use Rattle.lsp_words.specs.Marks.{mark_kind, mark_of, marks_in, marks_of, rule_of};
 
 use crate::rows::{goes_on_after, tokens_in};
 use rule_tokens::{Operator, Token, TokenFault};
@@ -20,16 +20,19 @@ pub enum MarkKind {
 /// A label or a jump of a rules file: the token `LABEL="x"` or `GOTO="x"`. It borrows its row.
 #[derive(Drop)]
 pub struct Mark<'t> {
-    kind: MarkKind,
-    rule: u32,
+    /// Whether it is a label or a jump.
+    pub(crate) kind: MarkKind,
+    /// The row in which its rule begins, counted from 0.
+    pub(crate) rule: u32,
     line: u32,
     start: usize,
     end: usize,
-    name: &'t [u8],
+    /// The bytes between its quotes, as they are written.
+    pub(crate) name: &'t [u8],
 }
 
 impl<'t> Model for Mark<'t> {
-    ghost use Rattle.lsp_words.specs.MarkValues.{MarkValue};
+    ghost use Rattle.lsp_words.specs.Marks.{MarkValue};
 
     ghost Value = { MarkValue };
 
@@ -37,20 +40,6 @@ impl<'t> Model for Mark<'t> {
 }
 
 impl<'t> Mark<'t> {
-    /// Whether it is a label or a jump.
-    pub fn kind(&self) -> MarkKind
-        ensures { result ≡ self.now.kind }
-    {
-        self.kind
-    }
-
-    /// The row in which its rule begins, counted from 0.
-    pub fn rule(&self) -> u32
-        ensures { result ≡ self.now.rule }
-    {
-        self.rule
-    }
-
     /// The row in which it stands, counted from 0.
     pub fn line(&self) -> u32
         ensures { result ≡ self.now.line }
@@ -71,29 +60,20 @@ impl<'t> Mark<'t> {
     {
         self.end
     }
-
-    /// The bytes between its quotes, as they are written.
-    pub fn name(&self) -> &'t [u8]
-        ensures { result.now ≡ self.now.name }
-    {
-        self.name
-    }
 }
 
-/// Whether an operator is `=`.
-fn is_assign(operator: Operator) -> bool
-    ensures { result ≡ is_assign operator }
+/// Which mark a token is, if it is one: it has `=`, and nothing in braces.
+#[tactic(auto, unfolding(crate::specs::Marks::mark_kind))]
+pub(crate) fn mark_kind(token: &Token<'_>) -> Option<MarkKind>
+    ensures { result ≡ mark_kind token.now.parts.head }
 {
-    match operator {
-        Operator::Assign => true,
-        _ => false,
+    if token.attribute().is_some() {
+        return None;
     }
-}
-
-/// Which mark has a key, if one has it.
-fn kind_of(key: &[u8]) -> Option<MarkKind>
-    ensures { result ≡ kind_of key.now }
-{
+    let Operator::Assign = token.operator() else {
+        return None;
+    };
+    let key = token.key();
     if key == b"LABEL".as_slice() {
         Some(MarkKind::Label)
     } else if key == b"GOTO".as_slice() {
@@ -101,17 +81,6 @@ fn kind_of(key: &[u8]) -> Option<MarkKind>
     } else {
         None
     }
-}
-
-/// Which mark a token is, if it is one.
-#[tactic(auto, unfolding(crate::specs::Marks::mark_kind))]
-pub(crate) fn mark_kind(token: &Token<'_>) -> Option<MarkKind>
-    ensures { result ≡ mark_kind token.now.parts.head }
-{
-    if is_assign(token.operator()) && token.attribute().is_none() {
-        return kind_of(token.key());
-    }
-    None
 }
 
 /// The mark that an item of a row is, if it is one.
@@ -137,7 +106,7 @@ fn mark_of<'t>(rule: u32, line: u32, item: Result<Token<'t>, TokenFault>) -> Opt
 /// Adds the marks of a row, of a rule that begins in the row `rule`. Nothing is read after a part that is no token, and a
 /// comment has no marks.
 #[tactic(auto, unfolding(crate::specs::Marks::marks_in))]
-pub fn push_marks<'t>(
+fn push_marks<'t>(
     marks: &mut Vec<Mark<'t>>,
     rule: u32,
     line: u32,

@@ -1,10 +1,7 @@
 //! What the word at a place of a row means.
 ghost use Rattle.std.specs.Prelude.{◌≡◌, ◌≤◌, ◌<◌, ◌+◌, ◌-◌, ◌^◌, IfSome, drop, length, option_map, take};
-ghost use Rattle.std.specs.List.{prefix_len};
-ghost use Rattle.std.specs.Option.{ForSome};
 ghost use Rattle.lsp_words.specs.Entries.{row_of};
-ghost use Rattle.lsp_words.specs.Meanings.{IsTold, chosen, is_in, meaning_at, meaning_in, size_of, slot_around, told};
-ghost use Rattle.lsp_words.specs.Shown.{shown};
+ghost use Rattle.lsp_words.specs.Meanings.{IsTold, is_in, meaning_at, meaning_in, shown, size_of, slot_around, told};
 
 use crate::classes::{is_key_byte, is_operator_byte};
 use crate::entries::{Entry, entry_in};
@@ -44,39 +41,27 @@ fn size_of(kind: WordKind, text: &[u8]) -> usize
     text.iter().take_while(|byte| is_in(kind, **byte)).count()
 }
 
-/// The slot of the word that a byte is in, or else of the one that ends there.
-fn chosen(at: usize, around: Option<Slot>, before: Option<Slot>) -> Option<Slot>
-    requires { ForSome before (λ slot. slot.start ≤ at) }
-    ensures value { result ≡ chosen at around before }
-    ensures begun { IfSome result (λ slot. slot.start ≤ at) }
-{
-    match around {
-        None => before,
-        Some(slot) => { if slot.start <= at { Some(slot) } else { before } }
-    }
-}
-
 /// The first so many bytes of a row, or all of it.
 #[tactic(auto, using(std::proofs::lemmas::List::take_min))]
-pub(crate) fn front(row: &[u8], size: usize) -> &[u8]
+fn front(row: &[u8], size: usize) -> &[u8]
     ensures value { result.now ≡ take size row.now }
     ensures within { length result.now ≤ size }
 {
     &row[..size.min(row.len())]
 }
 
-/// The slot of the word at a place of a row.
+/// The slot of the word at a place of a row: of the one that the byte there is in, or else of the one that ends there.
 #[tactic(auto, unfolding(crate::specs::Meanings::slot_around))]
 fn slot_around(kind: FileKind, row: &[u8], at: usize) -> Option<Slot>
     ensures value { result ≡ slot_around kind row.now at }
     ensures within { IfSome result (λ slot. slot.start ≤ length row.now) }
     ensures begun { IfSome result (λ slot. slot.start ≤ at) }
 {
-    chosen(
-        at,
-        slot_of(kind, front(row, at.saturating_add(1))),
-        slot_of(kind, front(row, at)),
-    )
+    let before = slot_of(kind, front(row, at));
+    match slot_of(kind, front(row, at.saturating_add(1))) {
+        None => before,
+        Some(slot) => { if slot.start <= at { Some(slot) } else { before } }
+    }
 }
 
 /// What is told about a word that begins at a place, if it reaches to the other place.

@@ -2,10 +2,10 @@
 ghost use Rattle.std.specs.Prelude.{◌≡◌, ◌≤◌, length};
 ghost use Rattle.std.specs.List.{prefix_len};
 ghost use Rattle.rule_tokens.specs.Grammar.{is_gap_byte};
-ghost use Rattle.lsp_words.specs.Rows.{between, body, goes_on_after, is_comment, items_in, stripped};
+ghost use Rattle.lsp_words.specs.Rows.{between, body, goes_on_after, is_comment, items_in};
 
 use rule_tokens::Tokens;
-use text_bytes::{begins_with, ends_in, is_blank, trimmed, unindented, without_last};
+use text_bytes::{begins_with, ends_in, is_blank, unindented, without_last};
 
 /// Whether a row is a comment: its first byte that is no blank is `#`.
 fn is_comment(row: &[u8]) -> bool
@@ -30,20 +30,13 @@ pub(crate) fn body(row: &[u8]) -> &[u8]
 
 /// Whether a rule goes on after a row: the row ends in a backslash. A comment changes nothing, so that a rule may go on
 /// after it; `before` says whether one went on before the row.
-pub fn goes_on_after(before: bool, row: &[u8]) -> bool
+pub(crate) fn goes_on_after(before: bool, row: &[u8]) -> bool
     ensures { result ≡ goes_on_after before row.now }
 {
     if is_comment(row) {
         return before;
     }
     ends_in(b'\\', row)
-}
-
-/// A text without the blanks at its start and without the whitespace at its end.
-pub(crate) fn stripped(text: &[u8]) -> &[u8]
-    ensures { result.now ≡ stripped text.now }
-{
-    trimmed(unindented(text))
 }
 
 /// Whether a byte is a comma, a space or a tab.
@@ -61,7 +54,7 @@ fn gap_length(text: &[u8]) -> usize
     text.iter().take_while(|byte| is_gap_byte(**byte)).count()
 }
 
-/// The tokens of a row in turn, and the fault that ends them, if one does.
+/// The tokens of a row in turn, and the fault that ends them, if one does. Commas and blanks may come first.
 #[tactic(auto, unfolding(crate::specs::Rows::items_in))]
 pub(crate) fn tokens_in(row: &[u8]) -> Tokens<'_>
     ensures { result ≡ items_in row.now }

@@ -1,11 +1,9 @@
 //! Which words may stand at a place of a row, and where the one that is begun there begins.
-ghost use Rattle.std.specs.Prelude.{◌≡◌, ◌≤◌, ◌==◌, IfSome, length};
-ghost use Rattle.std.specs.List.{list_any, prefix_len};
+ghost use Rattle.std.specs.Prelude.{◌≡◌, ◌≤◌, IfSome, length};
+ghost use Rattle.std.specs.List.{prefix_len};
 ghost use Rattle.text_bytes.specs.Names.{is_blank};
-ghost use Rattle.lsp_words.specs.Contexts.{context_of};
-ghost use Rattle.lsp_words.specs.Scans.{seen};
-ghost use Rattle.lsp_words.specs.Slots.{database_slot, kind_at, kind_of_sign, slot_in, slot_of};
-ghost use Rattle.lsp_words.specs.Slots.{kind_in_braces, kind_in_import, kind_in_name, kind_in_run, kind_in_value};
+ghost use Rattle.lsp_words.specs.Contexts.{seen};
+ghost use Rattle.lsp_words.specs.Slots.{database_slot, kind_at, kind_in_braces, kind_in_name, kind_in_value, slot_of};
 
 use crate::contexts::{Scan, scanned};
 use crate::kinds::WordKind;
@@ -35,27 +33,6 @@ fn kind_in_braces(key: Option<Key>) -> Option<WordKind>
     }
 }
 
-/// What an IMPORT of a type begins with.
-fn kind_in_import(known: Option<ImportType>) -> Option<WordKind>
-    ensures { result ≡ kind_in_import known }
-{
-    match known {
-        Some(ImportType::Builtin) => Some(WordKind::Builtin),
-        Some(ImportType::Db | ImportType::Parent) => Some(WordKind::Property),
-        _ => None,
-    }
-}
-
-/// What a RUN of a type begins with.
-fn kind_in_run(known: Option<RunType>) -> Option<WordKind>
-    ensures { result ≡ kind_in_run known }
-{
-    match known {
-        Some(RunType::Builtin) => Some(WordKind::Builtin),
-        _ => None,
-    }
-}
-
 /// What the value of a key is made of, by what is in the key's braces.
 fn kind_in_value(key: Option<Key>, braces: &[u8]) -> Option<WordKind>
     ensures { result ≡ kind_in_value key braces.now }
@@ -64,8 +41,15 @@ fn kind_in_value(key: Option<Key>, braces: &[u8]) -> Option<WordKind>
         Some(Key::Action) => Some(WordKind::Action),
         Some(Key::Subsystem | Key::Subsystems) => Some(WordKind::Subsystem),
         Some(Key::Options) => Some(WordKind::RuleOption),
-        Some(Key::Import) => kind_in_import(import_type_of(braces)),
-        Some(Key::Run) => kind_in_run(run_type_of(braces)),
+        Some(Key::Import) => match import_type_of(braces) {
+            Some(ImportType::Builtin) => Some(WordKind::Builtin),
+            Some(ImportType::Db | ImportType::Parent) => Some(WordKind::Property),
+            _ => None,
+        },
+        Some(Key::Run) => match run_type_of(braces) {
+            Some(RunType::Builtin) => Some(WordKind::Builtin),
+            _ => None,
+        },
         _ => None,
     }
 }
@@ -83,17 +67,6 @@ fn kind_in_name(name: &[u8]) -> Option<WordKind>
     }
 }
 
-/// Which substitutions a name is begun of.
-fn kind_of_sign(word: &[u8]) -> WordKind
-    ensures { result ≡ kind_of_sign word.now }
-{
-    if begins_with(b'$', word) {
-        WordKind::Substitution
-    } else {
-        WordKind::Letter
-    }
-}
-
 /// Which words may stand where a row is read to.
 fn kind_at(before: &[u8], scan: &Scan<'_>) -> Option<WordKind>
     requires { scan.now.start ≤ length before.now }
@@ -106,31 +79,15 @@ fn kind_at(before: &[u8], scan: &Scan<'_>) -> Option<WordKind>
         Place::Value => kind_in_value(key_of(scan.key), scan.braces),
         Place::Name => {
             let (_, word) = before.split_at(scan.start);
-            Some(kind_of_sign(word))
+            if begins_with(b'$', word) {
+                Some(WordKind::Substitution)
+            } else {
+                Some(WordKind::Letter)
+            }
         }
         Place::Inner => kind_in_name(scan.name),
         _ => None,
     }
-}
-
-/// Which words may stand at the end of these bytes of a rules file's row.
-fn rule_slot(before: &[u8]) -> Option<Slot>
-    ensures value { result ≡ slot_in before.now (context_of before.now) }
-    ensures within { IfSome result (λ slot. slot.start ≤ length before.now) }
-{
-    let scan = scanned(before);
-    let kind = kind_at(before, &scan)?;
-    Some(Slot {
-        kind,
-        start: scan.start,
-    })
-}
-
-/// Whether a text has a byte.
-pub(crate) fn has(byte: u8, text: &[u8]) -> bool
-    ensures { result ≡ list_any (λ b. b == byte) text.now }
-{
-    text.contains(&byte)
 }
 
 /// How many blanks a text begins with.
@@ -146,11 +103,11 @@ fn database_slot(before: &[u8]) -> Option<Slot>
     ensures value { result ≡ database_slot before.now }
     ensures within { IfSome result (λ slot. slot.start ≤ length before.now) }
 {
-    if has(b'#', before) {
+    if before.contains(&b'#') {
         return None;
     }
     if begins_with(b' ', before) {
-        if has(b'=', before) {
+        if before.contains(&b'=') {
             None
         } else {
             Some(Slot {
@@ -173,7 +130,14 @@ pub(crate) fn slot_of(kind: FileKind, before: &[u8]) -> Option<Slot>
     ensures within { IfSome result (λ slot. slot.start ≤ length before.now) }
 {
     match kind {
-        FileKind::Rules => rule_slot(before),
+        FileKind::Rules => {
+            let scan = scanned(before);
+            let word = kind_at(before, &scan)?;
+            Some(Slot {
+                kind: word,
+                start: scan.start,
+            })
+        }
         FileKind::Hwdb => database_slot(before),
     }
 }

@@ -2,7 +2,7 @@
 
 use crate::entries::{Entry, entry};
 
-/// What is told about each substitution by its long name, in the order of `rule_templates`.
+/// What is told about each substitution by its long name, in the order of `rule_tokens`.
 pub(crate) const SUBSTITUTIONS: [Entry; 19] = [
     entry!(
         "$kernel",
@@ -102,7 +102,7 @@ pub(crate) const SUBSTITUTIONS: [Entry; 19] = [
     ),
 ];
 
-/// What is told about each substitution by its letter, in the order of `rule_templates`.
+/// What is told about each substitution by its letter, in the order of `rule_tokens`.
 pub(crate) const LETTERS: [Entry; 14] = [
     entry!(
         "%k",

@@ -1,13 +1,13 @@
 //! What an outline of a document lists.
 ghost use Rattle.std.specs.Prelude.{◌≡◌, IfOk, OnOk, map, option_map};
-ghost use Rattle.lsp_words.specs.Symbols.{begun_rule, is_shown, label_in, label_of, matched};
-ghost use Rattle.lsp_words.specs.Symbols.{record_name, record_symbol, rule_name, rule_symbol, symbol_in, symbols_of, with_item, with_match};
+ghost use Rattle.lsp_words.specs.Symbols.{is_shown, label_in, label_of, matched, record_symbol, rule_name, rule_symbol};
+ghost use Rattle.lsp_words.specs.Symbols.{symbol_in, symbols_of, with_item};
 
 use crate::marks::{MarkKind, mark_kind};
-use crate::rows::{between, body, goes_on_after, stripped, tokens_in};
+use crate::rows::{between, body, goes_on_after, tokens_in};
 use rule_tokens::{Token, TokenFault};
 use std::alloc::{AllocError, Global};
-use text_bytes::{Bytes, FileKind, begins_with, capped, trimmed, up_to};
+use text_bytes::{Bytes, FileKind, begins_with, capped, trimmed, unindented, up_to};
 
 /// What an entry of an outline is.
 #[derive(Clone, Copy, Debug, PartialEq, Eq)]
@@ -35,7 +35,7 @@ pub struct Symbol {
 fn is_shown(text: &[u8]) -> bool
     ensures { result ≡ is_shown text.now }
 {
-    !stripped(text).is_empty()
+    !trimmed(unindented(text)).is_empty()
 }
 
 /// The label that an item of a row gives, if it gives one that can be shown.
@@ -65,17 +65,7 @@ fn label_in(row: &[u8]) -> Option<&[u8]>
     None
 }
 
-/// Adds a match to a name of matches.
-fn push_match(name: &mut Vec<u8>, written: &[u8]) -> Result<(), AllocError>
-    ensures { OnOk result (name.new.items ≡ with_match name.old.items written.now) }
-{
-    if !name.is_empty() {
-        name.extend_from_slice(b", ")?;
-    }
-    name.extend_from_slice(written)
-}
-
-/// Adds an item of a row to a name of matches, if it is one.
+/// Adds an item of a row to a name of matches, if it is one, after `, ` if the name has others.
 fn push_item(
     name: &mut Vec<u8>,
     row: &[u8],
@@ -89,8 +79,11 @@ fn push_item(
     if !token.operator().compares() {
         return Ok(());
     }
+    if !name.is_empty() {
+        name.extend_from_slice(b", ")?;
+    }
     let span = token.span();
-    push_match(name, between(span.start, span.end, row))
+    name.extend_from_slice(between(span.start, span.end, row))
 }
 
 /// The matches of a row, as they are written, with `, ` in between.
@@ -111,7 +104,7 @@ fn rule_name(alloc: Global, row: &[u8]) -> Result<Bytes, AllocError>
 {
     let name = matched(alloc, row)?;
     if name.is_empty() {
-        return Bytes::copy_of(alloc, stripped(body(row)));
+        return Bytes::copy_of(alloc, trimmed(unindented(body(row))));
     }
     Ok(Bytes::new(name))
 }
@@ -134,30 +127,13 @@ fn rule_symbol(alloc: Global, line: u32, row: &[u8]) -> Result<Symbol, AllocErro
     }
 }
 
-/// The entry of a row in which no rule goes on, if a rule begins in it.
-#[tactic(auto, unfolding(crate::specs::Symbols::begun_rule))]
-fn begun_rule(alloc: Global, line: u32, row: &[u8]) -> Result<Option<Symbol>, AllocError>
-    ensures { IfOk result (λ symbol. symbol ≡ begun_rule line row.now) }
-{
-    if !is_shown(body(row)) {
-        return Ok(None);
-    }
-    Ok(Some(rule_symbol(alloc, line, row)?))
-}
-
-/// A row of a database file without its comment, and without the whitespace before that.
-fn record_name(row: &[u8]) -> &[u8]
-    ensures { result.now ≡ record_name row.now }
-{
-    trimmed(up_to(b'#', row))
-}
-
-/// The entry of a row of a database file, if it is a match.
+/// The entry of a row of a database file, if it is a match: it is named by the row without its comment, and without the
+/// whitespace before that.
 #[tactic(auto, unfolding(crate::specs::Symbols::record_symbol))]
 fn record_symbol(alloc: Global, line: u32, row: &[u8]) -> Result<Option<Symbol>, AllocError>
     ensures { IfOk result (λ symbol. symbol ≡ record_symbol line row.now) }
 {
-    let name = record_name(row);
+    let name = trimmed(up_to(b'#', row));
     if begins_with(b' ', row) || begins_with(b'\t', row) || !is_shown(name) {
         return Ok(None);
     }
@@ -172,7 +148,8 @@ fn record_symbol(alloc: Global, line: u32, row: &[u8]) -> Result<Option<Symbol>,
 ///
 /// In a rules file a rule is an entry in the row in which it begins, named by its label, else by its matches in that row
 /// with `, ` in between, else by the row. In a database file a match is one, named by itself without its comment.
-pub fn symbol_in_row(
+#[tactic(auto, unfolding(crate::specs::Symbols::begun_rule))]
+fn symbol_in_row(
     alloc: Global,
     kind: FileKind,
     line: u32,
@@ -187,7 +164,10 @@ pub fn symbol_in_row(
             if goes_on {
                 return Ok(None);
             }
-            begun_rule(alloc, line, row)
+            if !is_shown(body(row)) {
+                return Ok(None);
+            }
+            Ok(Some(rule_symbol(alloc, line, row)?))
         }
     }
 }

@@ -1,13 +1,17 @@
 //! What the value of a token is made of, by its key, what is in the braces, and its operator.
 ghost use Rattle.std.specs.Prelude.{◌≡◌};
-ghost use Rattle.lsp_words.specs.Values.{is_split, key_substitutes, substitutes};
+ghost use Rattle.lsp_words.specs.Values.{is_split, substitutes};
 
 use rule_types::{ImportType, Key, import_type_of, key_of};
 
-/// Whether the value of a key has substitutions, if it is compared or if it is assigned.
-fn key_substitutes(key: Key, braces: &[u8], compares: bool) -> bool
-    ensures { result ≡ key_substitutes key braces.now compares }
+/// Whether the value of a token has substitutions.
+#[tactic(auto, unfolding(crate::specs::Values::substitutes))]
+pub(crate) fn substitutes(key: &[u8], braces: &[u8], operator: &[u8]) -> bool
+    ensures { result ≡ substitutes key.now braces.now operator.now }
 {
+    let Some(key) = key_of(key) else {
+        return false;
+    };
     match key {
         Key::Test | Key::Program | Key::Owner | Key::Group | Key::Mode | Key::Seclabel | Key::Run =>
             true,
@@ -15,22 +19,10 @@ fn key_substitutes(key: Key, braces: &[u8], compares: bool) -> bool
             import_type_of(braces),
             Some(ImportType::Cmdline | ImportType::Db)
         ),
-        Key::Name | Key::Symlink | Key::Tag | Key::Attr | Key::Sysctl | Key::Env => !compares,
-        _ => false,
-    }
-}
-
-/// Whether the value of a token has substitutions.
-#[tactic(auto, unfolding(crate::specs::Values::substitutes))]
-pub(crate) fn substitutes(key: &[u8], braces: &[u8], operator: &[u8]) -> bool
-    ensures { result ≡ substitutes key.now braces.now operator.now }
-{
-    match key_of(key) {
-        None => false,
-        Some(known) => {
-            let compares = operator == b"==".as_slice() || operator == b"!=".as_slice();
-            key_substitutes(known, braces, compares)
+        Key::Name | Key::Symlink | Key::Tag | Key::Attr | Key::Sysctl | Key::Env => {
+            operator != b"==".as_slice() && operator != b"!=".as_slice()
         }
+        _ => false,
     }
 }
 

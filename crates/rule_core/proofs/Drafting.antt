@@ -7,7 +7,7 @@ use Rattle.rule_core.specs.Drafts.{Draft, part_of_item, parts_of, with_part}
 use Rattle.rule_core.specs.Rules.{name_of, rule_at}
 use Rattle.rule_core.specs.Taking.{Kinds, rule_with, sorted_kinds}
 use Rattle.rule_types.specs.Tokens.{WrittenPart, parts_in}
-use Rattle.rule_jumps.specs.declared.jumps.Landing.{Landing}
+use Rattle.rule_types.specs.declared.jumps.Landing.{Landing}
 use Rattle.rule_types.specs.Rules.{Rule}
 use Rattle.rule_core.specs.declared.names.NamePlace.{NamePlace}
 use Rattle.rule_types.specs.declared.spot.Spot.{Spot}

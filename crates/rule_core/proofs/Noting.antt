@@ -8,8 +8,8 @@ use Rattle.text_bytes.specs.declared.profile.Profile.{Profile}
 use Rattle.text_bytes.specs.Texts.{is_empty}
 use Rattle.file_messages.specs.declared.message.MessageKind.{MessageKind}
 use Rattle.file_messages.specs.declared.message.MessageKind.TheVariants.{LabelUnused, NoLaterLabel}
-use Rattle.rule_jumps.specs.Jumps.{Names, has_label, is_awaited, is_lost, is_named, is_unused, landings, landings_below}
-use Rattle.rule_jumps.specs.declared.jumps.Landing.{Landing}
+use Rattle.rule_types.specs.Jumps.{Names, has_label, is_awaited, is_lost, is_named, is_unused, landings, landings_below}
+use Rattle.rule_types.specs.declared.jumps.Landing.{Landing}
 use Rattle.rule_core.specs.Counts.{draft_tokens, line_tokens, token_count}
 use Rattle.rule_core.specs.Drafts.{Draft, draft_of}
 use Rattle.rule_core.specs.Lines.{NumberedLine}

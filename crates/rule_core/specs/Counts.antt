@@ -2,7 +2,7 @@
 use Rattle.std.specs.Prelude.{ℕ, ◌+◌, Bool, true, false, not, ◌&&◌, if◌then◌else◌, List, is_some, sum_by, Result, Ok, Err}
 use Rattle.std.specs.List.{count_by}
 use Rattle.file_messages.specs.declared.message.MessageKind.{MessageKind}
-use Rattle.rule_jumps.specs.declared.jumps.Landing.{Landing}
+use Rattle.rule_types.specs.declared.jumps.Landing.{Landing}
 use Rattle.rule_types.specs.declared.part.Part.{Part}
 use Rattle.rule_types.specs.declared.part.Part.TheVariants as part
 use Rattle.rule_core.specs.Drafts.{Draft}

@@ -16,8 +16,8 @@ use Rattle.rule_types.specs.Tokens.{parts_in}
 use Rattle.rule_core.specs.declared.names.NamePlace.{NamePlace}
 use Rattle.rule_types.specs.declared.spot.Spot.{Spot}
 use Rattle.text_bytes.specs.Texts.{word_of}
-use Rattle.rule_jumps.specs.Jumps.{Names, landings}
-use Rattle.rule_jumps.specs.declared.jumps.Landing.{Landing}
+use Rattle.rule_types.specs.Jumps.{Names, landings}
+use Rattle.rule_types.specs.declared.jumps.Landing.{Landing}
 
 -- the rules of files, and the messages about them
 pub record ReadRules : Type 0 where

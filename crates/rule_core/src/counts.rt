@@ -5,8 +5,7 @@ ghost use Rattle.rule_core.specs.Counts.{draft_tokens, is_counted, line_tokens, 
 use crate::draft::Draft;
 use crate::readings::LandedReading;
 use crate::sums::sum_of;
-use rule_jumps::Landing;
-use rule_types::Part;
+use rule_types::{Landing, Part};
 use std::alloc::AllocError;
 
 /// How many tokens may be left in rules.

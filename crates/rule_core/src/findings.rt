@@ -6,8 +6,7 @@ use crate::draft::Draft;
 use crate::names::NamePlace;
 use crate::readings::{LandedReading, Reading};
 use file_messages::MessageKind;
-use rule_jumps::Landing;
-use rule_types::Spot;
+use rule_types::{Landing, Spot};
 use std::alloc::{AllocError, Global};
 use text_bytes::Bytes;
 

@@ -5,7 +5,7 @@ ghost use Rattle.text_bytes.specs.Texts.{first};
 
 use crate::joined::JoinedLine;
 use crate::readings::{LandedReading, read_line};
-use rule_jumps::Landing;
+use rule_types::Landing;
 use std::alloc::{AllocError, Global};
 use std::marker::Model;
 use text_bytes::Profile;
@@ -20,7 +20,7 @@ pub struct LandedLines<'a> {
 
 impl<'a> Model for LandedLines<'a> {
     ghost use Rattle.std.specs.Prelude.{List, map, zip};
-    ghost use Rattle.rule_jumps.specs.declared.jumps.Landing as jumps;
+    ghost use Rattle.rule_types.specs.declared.jumps.Landing as jumps;
     ghost use Rattle.rule_core.specs.Rules as rules;
 
     ghost Value = { List (rules.Reading × jumps.Landing) };

@@ -49,8 +49,10 @@ pub use places::{between, following};
 pub use read_set::ReadRules;
 pub use reading::{read_rules, read_rules_as};
 pub use readings::{LandedReading, Reading, read_line, read_lines};
-pub use rule_templates::{Piece, Template, TemplateFault};
-pub use rule_tokens::{Operator, Quote, Span, Token, TokenFault, TokenFaultKind, Tokens, unquote};
+pub use rule_tokens::{
+    Operator, Piece, Quote, Span, Template, TemplateFault, Token, TokenFault, TokenFaultKind,
+    Tokens, unquote,
+};
 pub use rule_types::{
     Act, ActKind, AssignOperator, Assignment, Change, Comparison, Import, ImportType, Key,
     MatchOperator, PlainKey, PlainMatch, Rule, RuleOption, RuleSet, RunType, Spot, Target, UpKey,

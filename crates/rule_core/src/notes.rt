@@ -4,7 +4,7 @@
 //! A line takes some bytes here, whatever its rule has. One about which there is something to say is read again.
 ghost use Rattle.std.specs.Prelude.{◌≡◌, ◌++◌, if◌then◌else◌, ◌∷◌, [], Bool, true, List, Ok, map, flat_map, option_map, sum_by, IfOk, OnOk};
 ghost use Rattle.std.specs.List.{count_by};
-ghost use Rattle.rule_jumps.specs.Jumps.{landings};
+ghost use Rattle.rule_types.specs.Jumps.{landings};
 ghost use Rattle.rule_core.specs.Counts.{line_tokens, token_count};
 ghost use Rattle.rule_core.specs.Drafts.{draft_of};
 ghost use Rattle.rule_core.specs.Notes.{AreSilent, has_names, is_silent, no_outline, nowhere, some_names, spread, with_outline};
@@ -17,8 +17,7 @@ use crate::names::{NamePlace, name_of};
 use crate::readings::read_line;
 use crate::sums::sum_of;
 use file_messages::MessageKind;
-use rule_jumps::{Jump, Landing, landings};
-use rule_types::Spot;
+use rule_types::{Jump, Landing, Spot, landings};
 use std::alloc::{AllocError, Global};
 use std::marker::Model;
 use text_bytes::{Bytes, Profile};
@@ -48,7 +47,7 @@ struct GivenNames {
 }
 
 impl Model for GivenNames {
-    ghost use Rattle.rule_jumps.specs.Jumps.{Names};
+    ghost use Rattle.rule_types.specs.Jumps.{Names};
 
     ghost Value = { Names };
 

@@ -19,8 +19,7 @@ use crate::names::name_of;
 use crate::read_set::ReadRules;
 use crate::readings::{LandedReading, Reading, read_lines};
 use file_messages::{Message, MessageKind};
-use rule_jumps::Landing;
-use rule_types::{Rule, RuleSet, WrittenPart};
+use rule_types::{Landing, Rule, RuleSet, WrittenPart};
 use std::alloc::{AllocError, Global};
 use text_bytes::{Bytes, Profile, SourceFile};
 

@@ -3,7 +3,7 @@
 //! A line that is not a rule is kept here with what is wrong with it, so that the lines, what is said about them
 //! and their jumps stay side by side.
 ghost use Rattle.std.specs.Prelude.{◌≡◌, IfOk, map, option_map};
-ghost use Rattle.rule_jumps.specs.Jumps.{landings};
+ghost use Rattle.rule_types.specs.Jumps.{landings};
 ghost use Rattle.rule_core.specs.Notes.{nowhere, relanded};
 ghost use Rattle.rule_core.specs.Rules.{landed, name_of, names_of, reading_of};
 
@@ -14,8 +14,7 @@ use crate::line_fault::LineFault;
 use crate::names::NamePlace;
 use crate::notes::{NOWHERE, first_landing};
 use file_messages::MessageKind;
-use rule_jumps::{Jump, Landing, landings};
-use rule_types::Spot;
+use rule_types::{Jump, Landing, Spot, landings};
 use std::alloc::{AllocError, Global};
 use std::marker::Model;
 use text_bytes::Profile;
@@ -49,7 +48,7 @@ pub struct LandedReading<'a> {
 }
 
 impl<'a> Model for LandedReading<'a> {
-    ghost use Rattle.rule_jumps.specs.declared.jumps.Landing as jumps;
+    ghost use Rattle.rule_types.specs.declared.jumps.Landing as jumps;
     ghost use Rattle.rule_core.specs.Rules as rules;
 
     ghost Value = { rules.Reading × jumps.Landing };

@@ -6,7 +6,7 @@ ghost use Rattle.text_bytes.specs.declared.profile.Profile.TheVariants.{Manual, 
 ghost use Rattle.rule_core.specs.Turns.{acts_by_turn, assignments_by_turn, is_rendered_late, turn_of_act, turn_of_act_kind};
 ghost use Rattle.rule_core.specs.Turns.{turn_of_assignment, turn_of_change, turn_of_import, turn_of_option, turn_of_run, turn_of_target, turn_of_text};
 
-use rule_templates::is_substituted;
+use rule_tokens::is_substituted;
 use rule_types::{Act, ActKind, Assignment, Change, Import, RuleOption, RunType, Target, mode_of};
 use std::alloc::AllocError;
 use text_bytes::Profile;

@@ -9,12 +9,12 @@ use Rattle.text_bytes.specs.Texts.{first}
 use Rattle.text_tables.specs.Texts.{is_among, same_text, with_text, with_texts}
 use Rattle.text_tables.proofs.Found.{among_added}
 use Rattle.file_messages.specs.declared.message.MessageKind.{MessageKind}
-use Rattle.rule_jumps.specs.declared.jumps.Landing.{Landing}
+use Rattle.rule_types.specs.declared.jumps.Landing.{Landing}
 use Rattle.rule_core.specs.Drafts.{Draft}
 use Rattle.rule_core.specs.Rules.{Reading}
 use Rattle.rule_file_lints.specs.Compared.{compared_by, compared_texts, meant_spots, meant_to_compare, assigned_value, text_of, Valued}
-use Rattle.rule_value_lints.specs.Assignments.{is_about_tags}
-use Rattle.rule_value_lints.specs.ValueLints.{value_lints}
+use Rattle.rule_lints.specs.Assignments.{is_about_tags}
+use Rattle.rule_lints.specs.ValueLints.{value_lints}
 use Rattle.rule_file_lints.specs.Beside.{imported_beside, imports_any, late_spots}
 use Rattle.rule_file_lints.specs.FileLints.{FileNames, RulesAbove, left_by, lints_below, lints_of_lines, names_of, spots_by, spots_of}
 use Rattle.rule_file_lints.specs.ByName.{later_families}

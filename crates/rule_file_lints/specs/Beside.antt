@@ -7,7 +7,7 @@ use Rattle.rule_types.specs.Tokens.{WrittenPart}
 use Rattle.rule_types.specs.declared.spot.Spot.{Spot}
 use Rattle.rule_lints.specs.declared.lint.Lint.{Lint}
 use Rattle.rule_lints.specs.declared.lint.Lint.TheVariants.{ImportedBelow}
-use Rattle.rule_value_lints.specs.Texts.{begins_with_one}
+use Rattle.rule_lints.specs.ValueTexts.{begins_with_one}
 use Rattle.rule_file_lints.specs.Imported.{is_given, wanted_in}
 
 -- properties that the kernel sends with an event, or that udev sets before any rule: lib/kobject_uevent.c and the

@@ -5,7 +5,7 @@ use Rattle.text_bytes.specs.declared.profile.Profile.{Profile}
 use Rattle.text_bytes.specs.declared.source_file.SourceFile.{SourceFile}
 use Rattle.text_bytes.specs.Text.{Text}
 use Rattle.rule_lints.specs.declared.lint.Lint.{Lint}
-use Rattle.rule_jumps.specs.declared.jumps.Landing.{Landing}
+use Rattle.rule_types.specs.declared.jumps.Landing.{Landing}
 use Rattle.rule_core.specs.Rules.{Reading}
 use Rattle.rule_places.specs.Kept.{kept_lines}
 use Rattle.rule_places.specs.Placed.{placed}
@@ -16,8 +16,8 @@ use Rattle.rule_file_lints.specs.ByName.{later_families}
 use Rattle.rule_file_lints.specs.Imported.{given_names, imported_below, imported_names}
 use Rattle.rule_file_lints.specs.Reached.{jumps_above, never_reached}
 use Rattle.rule_lints.specs.RuleLints.{lints_of_rule}
-use Rattle.rule_value_lints.specs.ValueLints.{value_lints}
-use Rattle.rule_value_lints.specs.Assignments.{is_about_tags}
+use Rattle.rule_lints.specs.ValueLints.{value_lints}
+use Rattle.rule_lints.specs.Assignments.{is_about_tags}
 use Rattle.rule_file_lints.specs.Beside.{imported_beside}
 use Rattle.rule_file_lints.specs.Guarded.{are_guarded, have_program, no_result, unguarded}
 use Rattle.rule_file_lints.specs.Late.{are_late, have_tag, late_tag}

@@ -7,7 +7,7 @@ use Rattle.rule_types.specs.declared.spot.Spot.{Spot}
 use Rattle.rule_lints.specs.RuleLints.{spots_with}
 use Rattle.rule_lints.specs.declared.lint.Lint.{Lint}
 use Rattle.rule_lints.specs.declared.lint.Lint.TheVariants.{NoMatch, NoResultYet}
-use Rattle.rule_value_lints.specs.Assignments.{changes_device, has_key}
+use Rattle.rule_lints.specs.Assignments.{changes_device, has_key}
 use Rattle.rule_file_lints.specs.FileRules.{FileRule}
 use Rattle.rule_file_lints.specs.Matches.{may_end_at}
 

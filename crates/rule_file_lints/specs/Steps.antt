@@ -5,14 +5,14 @@ use Rattle.text_bytes.specs.declared.profile.Profile.{Profile}
 use Rattle.text_bytes.specs.Text.{Text}
 use Rattle.text_tables.specs.Texts.{with_texts}
 use Rattle.file_messages.specs.declared.message.MessageKind.{MessageKind}
-use Rattle.rule_jumps.specs.declared.jumps.Landing.{Landing}
+use Rattle.rule_types.specs.declared.jumps.Landing.{Landing}
 use Rattle.rule_core.specs.Drafts.{Draft}
 use Rattle.rule_core.specs.Rules.{Reading}
 use Rattle.rule_lints.specs.declared.lint.Lint.{Lint}
 use Rattle.rule_places.specs.Placed.{placed}
 use Rattle.rule_places.specs.declared.kept.KeptLine.{KeptLine}
 use Rattle.rule_places.specs.declared.placed_finding.PlacedFinding.{PlacedFinding}
-use Rattle.rule_value_lints.specs.Assignments.{is_about_tags}
+use Rattle.rule_lints.specs.Assignments.{is_about_tags}
 use Rattle.rule_file_lints.specs.ByName.{is_later, later_families}
 use Rattle.rule_file_lints.specs.Compared.{assigned_value, compared_by, meant_spots}
 use Rattle.rule_file_lints.specs.FileLints.{FileNames, RulesAbove, spots_by}

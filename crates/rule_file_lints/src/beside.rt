@@ -1,11 +1,11 @@
 //! Properties that may be given before the rules of a file, and imports of properties of any names.
 ghost use Rattle.std.specs.Prelude.{◌≡◌, option_map};
 ghost use Rattle.text_tables.specs.Texts.{is_among};
-ghost use Rattle.rule_value_lints.specs.Texts.{begins_with_one};
+ghost use Rattle.rule_lints.specs.ValueTexts.{begins_with_one};
 ghost use Rattle.rule_file_lints.specs.Beside.{early_properties, imports_any, is_early, is_open, shared_families};
 
 use rule_core::WrittenPart;
-use rule_value_lints::begins_with_one;
+use rule_lints::begins_with_one;
 use text_tables::is_among;
 
 /// Properties that the kernel sends with an event, or that udev sets before any rule.

@@ -4,7 +4,7 @@ ghost use Rattle.text_bytes.specs.declared.profile.Profile as profiles;
 ghost use Rattle.text_bytes.specs.declared.source_file.SourceFile as files;
 ghost use Rattle.rule_core.specs.Ends.{abandoned};
 ghost use Rattle.rule_tokens.specs.declared.kinds.Operator.TheVariants as op;
-ghost use Rattle.rule_value_lints.specs.Laws.{token};
+ghost use Rattle.rule_lints.specs.ValueLaws.{token};
 ghost use Rattle.rule_file_lints.specs.ByName.{first_files, is_later, later_families};
 ghost use Rattle.rule_file_lints.specs.FileLaws.{FirstIsReached, ImportsFurtherDown, NoneAfterMatches, NoneUncompared, ReachedAfterLostJumps};
 ghost use Rattle.rule_file_lints.specs.FileLaws.{ReachedAfterMatches, ReachedByLabels, lints_without_places, without_place};

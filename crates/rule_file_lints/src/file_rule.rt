@@ -3,7 +3,7 @@ ghost use Rattle.std.specs.Prelude.{◌≡◌, option_map};
 ghost use Rattle.rule_file_lints.specs.Steps.{rule_in};
 
 use rule_core::{Draft, LandedReading};
-use rule_jumps::Landing;
+use rule_types::Landing;
 use std::marker::Model;
 
 /// A rule of a file, as its line was read. Where it is in the file does not matter to what is said of it here.

@@ -1,13 +1,12 @@
 //! W15 and W25: rules that change every device, and results that no program gives yet.
 ghost use Rattle.std.specs.Prelude.{◌≡◌, ◌++◌, OnOk, find, option_map};
-ghost use Rattle.rule_value_lints.specs.Assignments.{changes_device};
+ghost use Rattle.rule_lints.specs.Assignments.{changes_device};
 ghost use Rattle.rule_file_lints.specs.Guarded.{first_spots, has_program, is_result, may_jump, no_result, unguarded};
 
 use crate::file_rule::FileRule;
 use crate::matches::may_end;
 use rule_core::{Spot, WrittenPart};
-use rule_lints::{Lint, add_word};
-use rule_value_lints::{changes_device, has_key};
+use rule_lints::{Lint, add_word, changes_device, has_key};
 use std::alloc::{AllocError, Global};
 
 /// The key of programs that give a result.

@@ -5,7 +5,7 @@ use Rattle.std.proofs.lemmas.List.Elements.{All-nil, All-cons}
 use Rattle.text_bytes.specs.Names.{dollar, open_bracket, percent}
 use Rattle.text_bytes.specs.Texts.{begins_with}
 use Rattle.text_bytes.specs.declared.profile.Profile.TheVariants.{Udev}
-use Rattle.rule_templates.specs.Substituted.{has_sign, is_substituted}
+use Rattle.rule_tokens.specs.Substituted.{has_sign, is_substituted}
 use Rattle.rule_types.specs.declared.part.Assignment.{Assignment}
 use Rattle.rule_types.specs.declared.part.Change.{Change}
 use Rattle.rule_types.specs.declared.part.Change.TheVariants as change

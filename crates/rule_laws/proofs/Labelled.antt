@@ -4,7 +4,7 @@ use Rattle.std.proofs.lemmas.Bool.{false≢true}
 use Rattle.std.proofs.lemmas.List.{reverse-append}
 use Rattle.std.proofs.lemmas.List.Folds.{list_any-append}
 use Rattle.std.specs.Cmp.Lexicographic.{bytes_decides}
-use Rattle.rule_jumps.specs.Jumps.{Names, has_label, is_lost, is_named}
+use Rattle.rule_types.specs.Jumps.{Names, has_label, is_lost, is_named}
 use Rattle.rule_laws.specs.Landings.{HasLabel, IsLost, Reaches}
 
 -- a name that is found is the name

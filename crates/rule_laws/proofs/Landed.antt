@@ -5,8 +5,8 @@ use Rattle.file_messages.specs.declared.message.Message.{Message}
 use Rattle.text_bytes.specs.declared.profile.Profile.{Profile}
 use Rattle.rule_core.specs.Lines.{NumberedLine}
 use Rattle.rule_core.specs.Drafts.{draft_of}
-use Rattle.rule_jumps.specs.Jumps.{Names, is_lost, is_unused, landings_below}
-use Rattle.rule_jumps.specs.declared.jumps.Landing.{Landing}
+use Rattle.rule_types.specs.Jumps.{Names, is_lost, is_unused, landings_below}
+use Rattle.rule_types.specs.declared.jumps.Landing.{Landing}
 use Rattle.rule_types.specs.Rules.{Rule}
 use Rattle.rule_core.specs.Rules.{Reading, line_messages, line_rules, names_of, reading_of}
 

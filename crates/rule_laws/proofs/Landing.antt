@@ -5,7 +5,7 @@ use Rattle.std.specs.List.{flat_map}
 use Rattle.text_bytes.specs.declared.source_file.SourceFile.{SourceFile}
 use Rattle.text_bytes.specs.declared.profile.Profile.TheVariants.{Manual}
 use Rattle.rule_core.specs.Lines.{NumberedLine, joined_lines}
-use Rattle.rule_jumps.specs.Jumps.{is_named}
+use Rattle.rule_types.specs.Jumps.{is_named}
 use Rattle.rule_laws.specs.Jumps.{JumpsStayInTheirFiles, LandsIn, numbered_rules, rules_in}
 use Rattle.rule_laws.specs.Outcomes.{AllBecome, HasLabel, LineOutcome, one_message, one_rule, rules_in as rules_of_outcome}
 use Rattle.rule_types.specs.Rules.{Rule}

@@ -1,11 +1,11 @@
 -- What is read of a text is just what it is.
 use Rattle.std.proofs.Common.{◌≡◌, ℕ, zero, suc, ◌+◌, ◌≤◌, List, [], ◌∷◌, length, Option, Some, None, Result, Ok, Err, refl, ap, sym, subst, ◌∙◌, arith, length-append}
-use Rattle.rule_templates.specs.Grammar.{IsFaulty, IsRead, OneAnswer, Reads, done, faulty, more}
-use Rattle.rule_templates.specs.Reading.{FirstPiece, first_at, pieces_of, pieces_within, with_first, with_piece}
-use Rattle.rule_templates.specs.declared.fault.TemplateFault.{TemplateFault}
-use Rattle.rule_templates.specs.declared.fault.TemplateFault.TheVariants as fault
-use Rattle.rule_templates.specs.declared.piece.Piece.{Piece}
-use Rattle.rule_templates.proofs.Spelled.{PieceWell, left_shorter, piece_well}
+use Rattle.rule_tokens.specs.TemplateGrammar.{IsFaulty, IsRead, OneAnswer, Reads, done, faulty, more}
+use Rattle.rule_tokens.specs.TemplateReading.{FirstPiece, first_at, pieces_of, pieces_within, with_first, with_piece}
+use Rattle.rule_tokens.specs.declared.fault.TemplateFault.{TemplateFault}
+use Rattle.rule_tokens.specs.declared.fault.TemplateFault.TheVariants as fault
+use Rattle.rule_tokens.specs.declared.piece.Piece.{Piece}
+use Rattle.rule_tokens.proofs.Spelled.{PieceWell, left_shorter, piece_well}
 use Rattle.rule_laws.proofs.TemplatesAgain.{fault_again, first_piece, spelled_again}
 
 -- pieces, and the fault after them, if one is

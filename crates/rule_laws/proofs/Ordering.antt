@@ -21,8 +21,8 @@ use Rattle.rule_core.specs.declared.names.NamePlace.{NamePlace}
 use Rattle.rule_types.specs.declared.spot.Spot.{Spot}
 use Rattle.rule_core.specs.Drafts.{Draft, again_in, draft, draft_of, draft_with, given_again, given_again_after, goto_at, label_at, name_place, part_again, parts_of}
 use Rattle.rule_core.specs.Style.{between, commas, gap_findings, operator_findings, style_after, style_findings}
-use Rattle.rule_jumps.specs.Jumps.{Names, landings}
-use Rattle.rule_jumps.specs.declared.jumps.Landing.{Landing}
+use Rattle.rule_types.specs.Jumps.{Names, landings}
+use Rattle.rule_types.specs.declared.jumps.Landing.{Landing}
 use Rattle.rule_laws.specs.Order.{AreInOrder, ComesBeforeAny, rank}
 use Rattle.rule_core.specs.Rules.{file_messages, findings_of, line_messages, message_at, name_spot, open_messages}
 use Rattle.rule_laws.proofs.Landed.{landing_at, names_at, reported_below}

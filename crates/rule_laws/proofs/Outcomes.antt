@@ -12,8 +12,8 @@ use Rattle.rule_core.specs.Ends.{abandoned}
 use Rattle.rule_core.specs.Lines.{NumberedLine, joined_lines}
 use Rattle.rule_types.specs.declared.spot.Spot.{Spot}
 use Rattle.rule_core.specs.Drafts.{Draft, draft_of}
-use Rattle.rule_jumps.specs.Jumps.{Names, has_label, is_lost, is_named, is_unused, landings}
-use Rattle.rule_jumps.specs.declared.jumps.Landing.{Landing}
+use Rattle.rule_types.specs.Jumps.{Names, has_label, is_lost, is_named, is_unused, landings}
+use Rattle.rule_types.specs.declared.jumps.Landing.{Landing}
 use Rattle.rule_laws.specs.Outcomes.{AllBecome, Becomes, HasLabel, IsAbandoned, IsReadByLine, LineOutcome, messages_in, one_message, one_rule, rules_in}
 use Rattle.rule_types.specs.Rules.{Rule}
 use Rattle.rule_core.specs.Rules.{line_messages, line_rules, message_at, messages_unless, name_of, names_of, open_messages, rule_at, rules_unless}

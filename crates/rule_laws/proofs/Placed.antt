@@ -1,9 +1,9 @@
 -- The landings have at the place of each rule what becomes of it, and no other list does.
 use Rattle.std.proofs.Common.{◌≡◌, ◌↔◌, suc, Bool, true, false, IsTrue, List, [], ◌∷◌, ◌++◌, length, slice_get, Some, reverse, refl, ap, sym, ◌∙◌, subst, arith}
 use Rattle.std.proofs.lemmas.List.{append_assoc, append-nil, reverse-append, reverse-reverse}
-use Rattle.rule_jumps.specs.Jumps.{Names, is_lost, is_unused, landings, landings_below}
+use Rattle.rule_types.specs.Jumps.{Names, is_lost, is_unused, landings, landings_below}
 use Rattle.rule_laws.specs.Landings.{AreLandings, IsLanding}
-use Rattle.rule_jumps.specs.declared.jumps.Landing.{Landing}
+use Rattle.rule_types.specs.declared.jumps.Landing.{Landing}
 use Rattle.rule_laws.proofs.Labelled.{lost_so, so_lost}
 use Rattle.rule_laws.proofs.Reached.{so_unused, unused_so}
 

@@ -2,7 +2,7 @@
 use Rattle.std.proofs.Common.{◌≡◌, ℕ, Bool, true, false, not, cond, ◌||◌, List, [], ◌∷◌, ◌++◌, Option, Some, None, reverse, refl, ap, sym, ◌∙◌}
 use Rattle.std.proofs.lemmas.Bool.{false≢true}
 use Rattle.std.proofs.lemmas.List.{append_assoc, reverse-append, reverse-reverse}
-use Rattle.rule_jumps.specs.Jumps.{Names, has_label, is_awaited, is_named, is_unused}
+use Rattle.rule_types.specs.Jumps.{Names, has_label, is_awaited, is_named, is_unused}
 use Rattle.rule_laws.specs.Landings.{IsReached, IsUnused}
 use Rattle.rule_laws.proofs.Labelled.{label-reverse, named_so, neither, none_found, none_in_place, so_named}
 

@@ -5,20 +5,20 @@ use Rattle.std.proofs.lemmas.List.{drop_at, take_at}
 use Rattle.std.proofs.lemmas.Bool.{and_parts}
 use Rattle.text_bytes.specs.Names.{dollar, percent, plus, open_brace, close_brace}
 use Rattle.text_bytes.specs.Texts.{begins_with, skip_while, split_once}
-use Rattle.rule_templates.specs.Grammar.{BeginsNotPlain, HasNoClose, IsFaulty, IsName, IsSign, IsSignWith, NamesNothing, Spells, in_braces}
-use Rattle.rule_templates.specs.Names.{long_names, named, short_names}
-use Rattle.rule_templates.specs.Number.{word_of}
-use Rattle.rule_templates.specs.Reading.{FirstPiece, argument_of, bracketed, is_no_sign, numbered, first_at, result_piece, with_name}
-use Rattle.rule_templates.specs.declared.fault.TemplateFault.{TemplateFault}
-use Rattle.rule_templates.specs.declared.fault.TemplateFault.TheVariants as fault
-use Rattle.rule_templates.specs.declared.names.Substitution.{Substitution}
-use Rattle.rule_templates.specs.declared.names.Substitution.TheVariants as name
-use Rattle.rule_templates.specs.declared.piece.Piece.{Piece}
-use Rattle.rule_templates.specs.declared.piece.Piece.TheVariants as piece
-use Rattle.rule_templates.proofs.Closing.{braced_again, braces_are, lacks_again, none_again, split_again}
-use Rattle.rule_templates.proofs.Numbers.{from_again, no_word_again, word_again}
-use Rattle.rule_templates.proofs.Spelled.{substituted}
-use Rattle.rule_templates.proofs.Signs.{NameWell, Rows, is_ordered, named_again, named_well}
+use Rattle.rule_tokens.specs.TemplateGrammar.{BeginsNotPlain, HasNoClose, IsFaulty, IsName, IsSign, IsSignWith, NamesNothing, Spells, in_braces}
+use Rattle.rule_tokens.specs.Names.{long_names, named, short_names}
+use Rattle.rule_tokens.specs.Number.{word_of}
+use Rattle.rule_tokens.specs.TemplateReading.{FirstPiece, argument_of, bracketed, is_no_sign, numbered, first_at, result_piece, with_name}
+use Rattle.rule_tokens.specs.declared.fault.TemplateFault.{TemplateFault}
+use Rattle.rule_tokens.specs.declared.fault.TemplateFault.TheVariants as fault
+use Rattle.rule_tokens.specs.declared.names.Substitution.{Substitution}
+use Rattle.rule_tokens.specs.declared.names.Substitution.TheVariants as name
+use Rattle.rule_tokens.specs.declared.piece.Piece.{Piece}
+use Rattle.rule_tokens.specs.declared.piece.Piece.TheVariants as piece
+use Rattle.rule_tokens.proofs.Closing.{braced_again, braces_are, lacks_again, none_again, split_again}
+use Rattle.rule_tokens.proofs.TemplateNumbers.{from_again, no_word_again, word_again}
+use Rattle.rule_tokens.proofs.Spelled.{substituted}
+use Rattle.rule_tokens.proofs.Signs.{NameWell, Rows, is_ordered, named_again, named_well}
 
 -- the piece at the front of a text; there is none if nothing is left
 abbrev pub first_piece : List ℕ → FirstPiece
@@ -128,7 +128,7 @@ spelled_again piece.Sys text rest h = sign_again name.Sys text rest h
 spelled_again piece.Devnode text rest h = sign_again name.Devnode text rest h
 
 -- a sign that names nothing
-nothing_by : (rows : Rows) (t : List ℕ) → ((n : List ℕ) (s : Substitution) (rest : List ℕ) → Rattle.rule_templates.specs.Grammar.HasName rows n s → t ≢ n ++ rest) → (o : Option (Substitution × List ℕ)) → NameWell rows t o → o ≡ None
+nothing_by : (rows : Rows) (t : List ℕ) → ((n : List ℕ) (s : Substitution) (rest : List ℕ) → Rattle.rule_tokens.specs.TemplateGrammar.HasName rows n s → t ≢ n ++ rest) → (o : Option (Substitution × List ℕ)) → NameWell rows t o → o ≡ None
 nothing_by rows t none None h = refl
 nothing_by rows t none (Some x) h = absurd (none h.0 x.0 x.1 h.2.in_table h.1)
 

@@ -11,8 +11,8 @@ use Rattle.rule_core.specs.Ends.{abandoned}
 use Rattle.rule_core.specs.Lines.{NumberedLine, Piece, is_comment, is_empty, is_open, joined_lines, kept, lines, lines_of_runs, open_number, open_of_runs, piece_of, run_number, run_text, runs, unindented}
 use Rattle.text_bytes.specs.Numbers.{capped}
 use Rattle.rule_core.specs.Drafts.{Draft, draft_of}
-use Rattle.rule_jumps.specs.Jumps.{Names, is_lost, is_unused, landings}
-use Rattle.rule_jumps.specs.declared.jumps.Landing.{Landing}
+use Rattle.rule_types.specs.Jumps.{Names, is_lost, is_unused, landings}
+use Rattle.rule_types.specs.declared.jumps.Landing.{Landing}
 use Rattle.rule_types.specs.Rules.{Rule}
 use Rattle.rule_core.specs.Rules.{Reading, file_messages, file_rules, findings_of, line_messages, line_rules, message_at, messages_unless, names_of, open_messages, reading_of, rule_at, rules_unless, set_of_as}
 use Rattle.rule_laws.specs.Laws.{IsEmptyOrRule, IsKnown, IsUnderstood, IsWritten, runs_of, well_landed, written_lines}

@@ -9,7 +9,7 @@ use Rattle.text_bytes.specs.declared.profile.Profile.TheVariants.{Manual}
 use Rattle.text_core.specs.Choices.{choice, choice_blind}
 use Rattle.text_core.specs.declared.glob_fault.GlobFault.{GlobFault}
 use Rattle.text_core.specs.declared.glob_fault.GlobFault.TheVariants as glob
-use Rattle.rule_templates.specs.Reading as templates
+use Rattle.rule_tokens.specs.TemplateReading as templates
 use Rattle.rule_tokens.specs.Grammar.{Placed}
 use Rattle.rule_types.specs.Names.{key_of}
 use Rattle.rule_types.specs.Topics.{topic_of}

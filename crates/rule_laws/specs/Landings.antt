@@ -1,8 +1,8 @@
 -- Jumps of rules as a relation, apart from how they are found.
 use Rattle.std.specs.Prelude.{◌≡◌, ◌↔◌, IsTrue, List, ◌∷◌, ◌++◌, length, slice_get, Some}
 use Rattle.text_bytes.specs.Text.{Text}
-use Rattle.rule_jumps.specs.Jumps.{Names}
-use Rattle.rule_jumps.specs.declared.jumps.Landing.{Landing}
+use Rattle.rule_types.specs.Jumps.{Names}
+use Rattle.rule_types.specs.declared.jumps.Landing.{Landing}
 
 -- a rule of these has the label
 pub record HasLabel (name : Text) (rules : List Names) : Type 0 where

@@ -7,7 +7,7 @@ use Rattle.text_bytes.specs.declared.profile.Profile.{Profile}
 use Rattle.rule_core.specs.Lines.{NumberedLine, Piece, is_comment, joined_lines, kept, lines, numbered_from, piece_of, run_number, run_text, runs, unindented}
 use Rattle.text_bytes.specs.Numbers.{capped}
 use Rattle.rule_core.specs.Drafts.{Draft, draft_of}
-use Rattle.rule_jumps.specs.declared.jumps.Landing.{Landing}
+use Rattle.rule_types.specs.declared.jumps.Landing.{Landing}
 use Rattle.rule_types.specs.Rules.{Rule}
 use Rattle.rule_core.specs.Rules.{file_rules, rule_at}
 

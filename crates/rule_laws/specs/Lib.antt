@@ -1,3 +1,11 @@
+pub mod Rows
+pub mod MessageLaws
+pub mod TreePaths
+pub mod Version1
+pub mod Parts
+pub mod LineLaws
+pub mod ChoiceGrammar
+pub mod Grammar
 pub mod Runs
 pub mod Landings
 pub mod Conditions

@@ -9,7 +9,7 @@ use Rattle.file_messages.specs.declared.message.MessageKind.{MessageKind}
 use Rattle.rule_core.specs.Lines.{NumberedLine, joined_lines}
 use Rattle.rule_types.specs.declared.spot.Spot.{Spot}
 use Rattle.rule_core.specs.Drafts.{Draft, draft_of}
-use Rattle.rule_jumps.specs.declared.jumps.Landing.{Landing}
+use Rattle.rule_types.specs.declared.jumps.Landing.{Landing}
 use Rattle.rule_types.specs.Rules.{Rule}
 use Rattle.rule_core.specs.Rules.{file_messages, file_rules, findings_of, message, message_at, name_of, open_messages, rule_at}
 

@@ -3,9 +3,9 @@
 //! Each function here is empty: its contract is the law.
 ghost use Rattle.std.specs.Prelude.{◌≡◌, ◌↔◌, List, Some};
 ghost use Rattle.text_bytes.specs.Text.{Text};
-ghost use Rattle.rule_jumps.specs.Jumps.{Names, landings};
+ghost use Rattle.rule_types.specs.Jumps.{Names, landings};
 ghost use Rattle.rule_laws.specs.Landings.{AreLandings, HasLabel, Reaches};
-ghost use Rattle.rule_jumps.specs.declared.jumps.Landing.{Landing};
+ghost use Rattle.rule_types.specs.declared.jumps.Landing.{Landing};
 
 /// What becomes of each rule is at its place in the list, and no other list is so. A jump is lost if no later rule
 /// has the label, and a label is unused if no earlier rule jumps to it over rules that don't have the label.

@@ -1,13 +1,28 @@
-//! Laws of rules: of lines, tokens, parts, templates and jumps, and of all that is read from rules files.
+//! Laws of what is read: of texts and patterns, of rules files and all their parts, and of the database, its trie and its index.
 //!
 //! A law is the contract of a function with an empty body. No crate with code depends on this one.
 #![tactic(auto)]
 
-pub mod drafts;
-pub mod jumps;
-pub mod lines;
-pub mod parts;
-pub mod rules;
-pub mod templates;
-pub mod tokens;
-pub mod udev;
+mod bounds;
+mod checks;
+mod drafts;
+mod files;
+mod images;
+mod indexes;
+mod jumps;
+mod layout;
+mod lines;
+mod nodes;
+mod parts;
+mod paths;
+mod patterns;
+mod reading;
+mod rules;
+mod sources;
+mod templates;
+mod text_lines;
+mod tokens;
+mod tries;
+mod udev;
+mod udev_patterns;
+mod written;

@@ -2,7 +2,7 @@
 //!
 //! Each function here is empty: its contract is the law.
 ghost use Rattle.text_bytes.specs.Text.{Text};
-ghost use Rattle.rule_templates.specs.Grammar.{IsRead, OneAnswer};
+ghost use Rattle.rule_tokens.specs.TemplateGrammar.{IsRead, OneAnswer};
 
 /// The pieces that are read from a text are those that spell it, and a fault is the first from the left: just
 /// these, and no others.

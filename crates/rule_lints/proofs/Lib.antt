@@ -1,3 +1,4 @@
+pub mod NeverLaw
 pub mod Octal
 pub mod ModeLaw
 pub mod SignLaw

@@ -1,10 +1,11 @@
 -- The commands of a rule, and what in them is meant for a shell.
 use Rattle.std.specs.Prelude.{ℕ, Bool, true, false, not, ◌&&◌, ◌||◌, ◌==◌, nat_eq, if◌then◌else◌, List, [], ◌∷◌, Option, Some, None, is_none, take, codes}
-use Rattle.std.specs.List.{ends_with, list_any, prefix_len}
+use Rattle.std.specs.Bool.{then_some}
+use Rattle.std.specs.List.{ends_with, prefix_len}
 use Rattle.std.specs.Option.{option_and_then}
 use Rattle.text_bytes.specs.Text.{Text}
 use Rattle.text_bytes.specs.Names.{bar, double_quote, equals, is_blank, single_quote, slash}
-use Rattle.text_bytes.specs.Texts.{begins_with, unindented}
+use Rattle.text_bytes.specs.Texts.{begins_with, unindented, up_to}
 use Rattle.rule_types.specs.declared.part.Change.{Change}
 use Rattle.rule_types.specs.declared.part.Change.TheVariants as change
 use Rattle.rule_types.specs.declared.part.ActKind.{ActKind}
@@ -15,7 +16,7 @@ use Rattle.rule_types.specs.declared.part.Part.TheVariants as part
 use Rattle.rule_types.specs.declared.types.RunType.TheVariants as run_of
 use Rattle.text_tables.specs.Texts.{is_among}
 use Rattle.rule_lints.specs.Parts.{change_of}
-use Rattle.rule_lints.specs.Texts.{before_first, has_byte, rest_after_last}
+use Rattle.rule_lints.specs.Texts.{has_byte, rest_after_last}
 
 -- the byte `&`
 abbrev pub ampersand : ℕ
@@ -65,15 +66,13 @@ abbrev pub is_word_end : Text → Bool
 is_word_end [] = true
 is_word_end (b ∷ text) = is_blank b
 
--- whether a text goes on like one after a `>` of the shell: with the end of a word, a path, a `&` or another `>`
-abbrev pub is_redirected : Text → Bool
-is_redirected text = (is_word_end text || begins_with slash text) || (begins_with ampersand text || begins_with greater text)
-
--- whether a byte is a sign of the shell before this text: `|`, `;` or `&` at the end of a word, `>` before its target, or
--- `&` and another `&`
+-- whether a byte is a sign of the shell before this text: `|`, `;` or `&` at the end of a word, `>` before its target, which is
+-- the end of a word, a path, a `&` or another `>`, or `&` and another `&`
 abbrev pub is_shell_sign : ℕ → Text → Bool
-is_shell_sign b text = ((b == bar || (b == semicolon || b == ampersand))
-    && is_word_end text) || ((b == greater && is_redirected text) || (b == ampersand && begins_with ampersand text))
+is_shell_sign b text =
+    ((b == bar || (b == semicolon || b == ampersand)) && is_word_end text)
+    || ((b == greater && (is_word_end text || (begins_with slash text || (begins_with ampersand text || begins_with greater text))))
+    || (b == ampersand && begins_with ampersand text))
 
 -- whether a text has a sign of the shell outside of quotes, if this quote is open before it
 abbrev pub has_sign_after : Option ℕ → Text → Bool
@@ -96,14 +95,13 @@ program_name command = rest_after_last slash (first_word command)
 abbrev pub shells : List Text
 shells = codes "sh" ∷ codes "ash" ∷ codes "bash" ∷ codes "dash" ∷ codes "ksh" ∷ codes "zsh" ∷ []
 
--- whether a word is what only a shell reads as a first one: a home folder, or a variable that is set
-abbrev pub is_shell_word : Text → Bool
-is_shell_word word = begins_with tilde word || has_byte equals (before_first slash word)
-
--- a command, if it has a sign of the shell, or begins as only one of the shell does, and no shell runs it
+-- a command, if it has a sign of the shell, or begins as only one of the shell does, with a home folder or a variable that is
+-- set, and no shell runs it
 abbrev pub lacks_shell : Text → Option Text
 lacks_shell command =
-    if (has_shell_sign command || is_shell_word (first_word command)) && not (is_among shells (program_name command)) then Some command else None
+    let word = first_word command in
+    then_some
+    ((has_shell_sign command || (begins_with tilde word || has_byte equals (up_to slash word))) && not (is_among shells (program_name command))) command
 
 -- the value with which W2 is reported
 abbrev pub shell_command : Part → Option Text
@@ -118,17 +116,13 @@ commands_elsewhere =
     ∷ codes "rmmod" ∷ codes "setfacl" ∷ codes "sh" ∷ codes "sleep" ∷ codes "su" ∷ codes "sudo" ∷ codes "systemctl"
     ∷ codes "systemd-run" ∷ codes "sysctl" ∷ codes "tee" ∷ codes "touch" ∷ codes "udevadm" ∷ codes "umount" ∷ []
 
--- the suffixes of scripts
-abbrev pub script_suffixes : List Text
-script_suffixes = codes ".sh" ∷ codes ".py" ∷ []
-
 -- whether a word is the name of a script, without a path
 abbrev pub is_bare_script : Text → Bool
-is_bare_script word = not (has_byte slash word) && list_any (λ suffix. ends_with nat_eq word suffix) script_suffixes
+is_bare_script word = not (has_byte slash word) && (ends_with nat_eq word (codes ".sh") || ends_with nat_eq word (codes ".py"))
 
 -- a command, if its first word is the name of one that is elsewhere, or of a script
 abbrev pub lacks_path : Text → Option Text
-lacks_path command = if is_among commands_elsewhere (first_word command) || is_bare_script (first_word command) then Some command else None
+lacks_path command = then_some (is_among commands_elsewhere (first_word command) || is_bare_script (first_word command)) command
 
 -- the value with which W3 is reported
 abbrev pub relative_program : Part → Option Text
@@ -143,7 +137,7 @@ forbidden_programs =
 
 -- a command, if its program is one of these
 abbrev pub is_forbidden : Text → Option Text
-is_forbidden command = if is_among forbidden_programs (program_name command) then Some command else None
+is_forbidden command = then_some (is_among forbidden_programs (program_name command)) command
 
 -- the value with which W24 is reported
 abbrev pub forbidden_command : Part → Option Text

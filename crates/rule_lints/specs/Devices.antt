@@ -1,12 +1,11 @@
 -- W5 and W26: what a rule asks one device for is of different devices, or of network devices.
-use Rattle.std.specs.Prelude.{ℕ, Bool, true, false, not, ◌==◌, nat_eq, if◌then◌else◌, List, [], ◌∷◌, Option, Some, None, codes, unwrap_or}
+use Rattle.std.specs.Prelude.{ℕ, Bool, true, false, not, ◌&&◌, ◌==◌, nat_eq, if◌then◌else◌, List, [], ◌∷◌, Option, Some, None, codes, unwrap_or}
+use Rattle.std.specs.Bool.{then_some}
 use Rattle.std.specs.List.{list_any, starts_with}
 use Rattle.text_bytes.specs.Text.{Text}
 use Rattle.text_bytes.specs.Names.{bar, colon, minus}
 use Rattle.rule_types.specs.declared.part.Part.{Part}
 use Rattle.rule_types.specs.declared.part.Part.TheVariants as part
-use Rattle.rule_types.specs.declared.roles.MatchOperator.{MatchOperator}
-use Rattle.rule_types.specs.declared.roles.MatchOperator.TheVariants as op
 use Rattle.rule_types.specs.declared.roles.PlainKey.{PlainKey}
 use Rattle.rule_types.specs.declared.roles.PlainKey.TheVariants as plain
 use Rattle.rule_types.specs.declared.roles.UpKey.{UpKey}
@@ -18,6 +17,7 @@ use Rattle.rule_lints.specs.declared.devices.Group.{Group}
 use Rattle.rule_lints.specs.declared.devices.Group.TheVariants.{UsbDevice, UsbInterface, Input, Pci, Tty, Net, Block, Hidraw, Sound, Video}
 use Rattle.rule_lints.specs.declared.devices.Side.{Side}
 use Rattle.rule_lints.specs.declared.devices.Side.TheVariants.{Event, Chain}
+use Rattle.rule_lints.specs.Parts.{is_equal}
 use Rattle.rule_lints.specs.Texts.{has_byte, rest_after_first}
 
 -- attributes of a USB device, and of none of its interfaces
@@ -79,49 +79,30 @@ abbrev pub group_by_stem : List (Text × Group) → Text → Option Group
 group_by_stem [] text = None
 group_by_stem (row ∷ rows) text = if starts_with nat_eq text row.0 then Some row.1 else group_by_stem rows text
 
--- the kind of devices that alone has the kernel's names that a value asks for; one of several patterns is not known
-abbrev pub group_of_kernel : Text → Option Group
-group_of_kernel value = if has_byte bar value then None else group_by_stem stems value
+-- whether a value asks for the name of an interface of a USB device: it has a `:` after a `-`, as in `1-2:1.0`, and is no choice
+abbrev pub is_interface_name : Text → Bool
+is_interface_name value = not (has_byte bar value) && has_byte colon (rest_after_first minus value)
 
--- the same for a parent: a `:` after a `-` is in the name of an interface of a USB device, as in `1-2:1.0`
-abbrev pub group_of_parent : Text → Option Group
-group_of_parent value =
-    if has_byte bar value then None
-    else (if has_byte colon (rest_after_first minus value) then Some UsbInterface else None)
-
--- the kind of devices that alone has a driver, if that is known
-abbrev pub group_of_driver : Text → Option Group
-group_of_driver name = if is_among interface_drivers name then Some UsbInterface else None
-
--- the kind of devices that alone meets a match of the event by `==`
+-- the kind of devices that alone meets a match of the event by `==`, if that is known; one of several names of the kernel is not
 abbrev pub group_of_plain : PlainKey → Text → Option Group
 group_of_plain (plain.Attr name) value = group_named name
 group_of_plain plain.Subsystem value = group_in_subsystem value
-group_of_plain plain.Kernel value = group_of_kernel value
+group_of_plain plain.Kernel value = if not (has_byte bar value) then group_by_stem stems value else None
 group_of_plain _ value = None
 
 -- the same for a match of one device of the chain
 abbrev pub group_of_up : UpKey → Text → Option Group
 group_of_up (up.Attrs name) value = group_named name
 group_of_up up.Subsystems value = group_in_subsystem value
-group_of_up up.Kernels value = group_of_parent value
-group_of_up up.Drivers value = group_of_driver value
+group_of_up up.Kernels value = then_some (is_interface_name value) UsbInterface
+group_of_up up.Drivers value = then_some (is_among interface_drivers value) UsbInterface
 group_of_up _ value = None
 
--- what is known of a match by `==`
-abbrev pub if_equal : MatchOperator → Option Group → Option Group
-if_equal op.Equal group = group
-if_equal _ group = None
-
 -- the kind of devices that alone meets a part that asks for the event's device, or for one of the chain
-abbrev pub group_of_part : Side → Part → Option Group
-group_of_part Event (part.Plain m) = if_equal m.wanted.operator (group_of_plain m.key m.wanted.written)
-group_of_part Chain (part.Up m) = if_equal m.wanted.operator (group_of_up m.key m.wanted.written)
-group_of_part _ _ = None
-
--- the same for a token
-abbrev pub group_of : Side → WrittenPart → Option Group
-group_of side w = group_of_part side w.part
+abbrev pub group_of : Side → Part → Option Group
+group_of Event (part.Plain m) = if is_equal m.wanted.operator then group_of_plain m.key m.wanted.written else None
+group_of Chain (part.Up m) = if is_equal m.wanted.operator then group_of_up m.key m.wanted.written else None
+group_of _ _ = None
 
 -- how many kinds come before a kind
 abbrev pub number : Group → ℕ
@@ -136,30 +117,26 @@ number Hidraw = 7
 number Sound = 8
 number Video = 9
 
--- whether two kinds are the same
-abbrev pub is_same : Group → Group → Bool
-is_same group other = number group == number other
-
 -- whether there is a group, and it is not this one
 abbrev pub is_other : Group → Option Group → Bool
 is_other group None = false
-is_other group (Some found) = not (is_same group found)
+is_other group (Some found) = not (number group == number found)
 
 -- whether there is a group, and it is this one
 abbrev pub is_kind : Group → Option Group → Bool
 is_kind group None = false
-is_kind group (Some found) = is_same group found
+is_kind group (Some found) = number group == number found
 
 -- whether a rule holds for network devices alone: one of its matches is met by no others
 abbrev pub is_of_net : List WrittenPart → Bool
-is_of_net tokens = list_any (λ w. is_kind Net (group_of Event w)) tokens
+is_of_net tokens = list_any (λ w. is_kind Net (group_of Event w.part)) tokens
 
 -- The first token of another group than that of the first token of a group. If a group is given, that is the group of
 -- the first.
 abbrev pub stranger_by : Side → Option Group → List WrittenPart → Option WrittenPart
 stranger_by side first [] = None
-stranger_by side None (w ∷ tokens) = stranger_by side (group_of side w) tokens
-stranger_by side (Some group) (w ∷ tokens) = if is_other group (group_of side w) then Some w else stranger_by side (Some group) tokens
+stranger_by side None (w ∷ tokens) = stranger_by side (group_of side w.part) tokens
+stranger_by side (Some group) (w ∷ tokens) = if is_other group (group_of side w.part) then Some w else stranger_by side (Some group) tokens
 
 -- the token with which W5 is reported of a side
 abbrev pub stranger : Side → List WrittenPart → Option WrittenPart

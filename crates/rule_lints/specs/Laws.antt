@@ -92,7 +92,7 @@ is_reported_to_hold text = some_pattern take_all (choice text)
 -- kind.
 pub record AreOfOneGroup (side : Side) (tokens : List WrittenPart) : Type 0 where
   pub group : Group
-  pub none_other : AllByRecursion (λ w. is_other group (group_of side w) ≡ false) tokens
+  pub none_other : AllByRecursion (λ w. is_other group (group_of side w.part) ≡ false) tokens
 
 -- A token is the first that asks for other devices than one before it: tokens come before it, of which some ask for a
 -- kind, and none for another one, while it does.
@@ -101,9 +101,9 @@ pub record IsStranger (side : Side) (tokens : List WrittenPart) (w : WrittenPart
   pub before : List WrittenPart
   pub following : List WrittenPart
   pub whole : tokens ≡ before ++ w ∷ following
-  pub some : list_any (λ v. is_some (group_of side v)) before ≡ true
-  pub none_other : AllByRecursion (λ v. is_other group (group_of side v) ≡ false) before
-  pub other : is_other group (group_of side w) ≡ true
+  pub some : list_any (λ v. is_some (group_of side v.part)) before ≡ true
+  pub none_other : AllByRecursion (λ v. is_other group (group_of side v.part) ≡ false) before
+  pub other : is_other group (group_of side w.part) ≡ true
 
 -- One of the tokens is a match of the event that only network devices meet.
 pub record AsksForNet (tokens : List WrittenPart) : Type 0 where
@@ -111,7 +111,7 @@ pub record AsksForNet (tokens : List WrittenPart) : Type 0 where
   pub w : WrittenPart
   pub following : List WrittenPart
   pub whole : tokens ≡ before ++ w ∷ following
-  pub net : group_of Event w ≡ Some Net
+  pub net : group_of Event w.part ≡ Some Net
 
 -- A text has a `{`, after it a `,`, and after that a `}`.
 pub record HasBraces (text : Text) : Type 0 where

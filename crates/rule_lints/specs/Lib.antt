@@ -1,3 +1,12 @@
+pub mod Tables
+pub mod ValueTexts
+pub mod Kernel
+pub mod Never
+pub mod Near
+pub mod Values
+pub mod Assignments
+pub mod ValueLints
+pub mod ValueLaws
 pub mod Texts
 pub mod Parts
 pub mod Modes

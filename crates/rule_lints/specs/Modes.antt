@@ -4,7 +4,7 @@ use Rattle.std.specs.Option.{option_and_then}
 use Rattle.text_bytes.specs.Text.{Text}
 use Rattle.text_bytes.specs.declared.profile.Profile.{Profile}
 use Rattle.text_bytes.specs.declared.profile.Profile.TheVariants.{Manual, Udev}
-use Rattle.rule_templates.specs.Substituted.{has_sign}
+use Rattle.rule_tokens.specs.Substituted.{has_sign}
 use Rattle.rule_types.specs.Topics.{is_mode, mode_of}
 use Rattle.rule_types.specs.declared.part.Change.{Change}
 use Rattle.rule_types.specs.declared.part.Change.TheVariants as change
@@ -26,6 +26,10 @@ abbrev pub mode_in : Change → Option Text
 mode_in (change.Text target.Mode t) = Some t.written
 mode_in _ = None
 
+-- the same of a part
+abbrev pub mode_given : Part → Option Text
+mode_given p = option_and_then mode_in (change_of p)
+
 -- the value with which W1 is reported
 abbrev pub wrong_mode : Profile → Part → Option Text
-wrong_mode profile p = option_and_then (no_mode profile) (option_and_then mode_in (change_of p))
+wrong_mode profile p = option_and_then (no_mode profile) (mode_given p)

@@ -1,11 +1,12 @@
 -- W11, W12 and W14: patterns that are written as regular expressions, matches that always hold, and what is no pattern
 -- for udev.
-use Rattle.std.specs.Prelude.{ℕ, Bool, true, false, not, ◌&&◌, ◌||◌, ◌==◌, nat_eq, if◌then◌else◌, List, [], ◌∷◌, Option, Some, None, codes}
+use Rattle.std.specs.Prelude.{ℕ, Bool, true, false, not, ◌&&◌, ◌||◌, nat_eq, List, [], ◌∷◌, Option, Some, None, codes, option_map, unwrap_or}
+use Rattle.std.specs.Bool.{then_some}
 use Rattle.std.specs.List.{list_all, list_any, slice_split, starts_with}
 use Rattle.std.specs.Option.{option_and_then}
 use Rattle.text_bytes.specs.Text.{Text}
-use Rattle.text_bytes.specs.Names.{backslash, caret, close_brace, close_bracket, comma, dollar, open_brace, plus}
-use Rattle.text_bytes.specs.Texts.{begins_with, ends_in, is_empty}
+use Rattle.text_bytes.specs.Names.{caret, close_brace, comma, dollar, open_brace}
+use Rattle.text_bytes.specs.Texts.{begins_with, ends_in, is_empty, up_to}
 use Rattle.text_bytes.specs.declared.profile.Profile.{Profile}
 use Rattle.text_bytes.specs.declared.profile.Profile.TheVariants.{Manual, Udev}
 use Rattle.text_tables.specs.Texts.{same_text}
@@ -13,7 +14,6 @@ use Rattle.text_core.specs.Choices.{is_bar}
 use Rattle.text_core.specs.declared.item.Item.{Item}
 use Rattle.rule_types.specs.declared.part.ActKind.{ActKind}
 use Rattle.rule_types.specs.declared.part.ActKind.TheVariants as act_kind
-use Rattle.rule_types.specs.declared.part.Comparison.{Comparison}
 use Rattle.rule_types.specs.declared.part.Import.TheVariants as import
 use Rattle.rule_types.specs.declared.part.Part.{Part}
 use Rattle.rule_types.specs.declared.part.Part.TheVariants as part
@@ -23,7 +23,8 @@ use Rattle.rule_types.specs.declared.roles.UpKey.{UpKey}
 use Rattle.rule_types.specs.declared.roles.UpKey.TheVariants as up
 use Rattle.rule_lints.specs.LetterCase.{is_many}
 use Rattle.rule_lints.specs.Parts.{comparison_of, is_equal}
-use Rattle.rule_lints.specs.Texts.{before_first, has_byte, rest_after_first, rest_after_last}
+use Rattle.rule_lints.specs.Texts.{has_byte, rest_after_first, rest_after_last}
+use Rattle.rule_lints.specs.ValueTexts.{has_one}
 
 -- the byte `(`
 abbrev pub open_parenthesis : ℕ
@@ -33,19 +34,9 @@ open_parenthesis = 40
 abbrev pub close_parenthesis : ℕ
 close_parenthesis = 41
 
--- `d`, `w` or `s`, which stand for digits, letters and blanks after a `\` of a regular expression
-abbrev pub is_class_letter : ℕ → Bool
-is_class_letter b = b == 100 || (b == 119 || b == 115)
-
--- whether a text begins with such a letter
-abbrev pub begins_with_class : Text → Bool
-begins_with_class [] = false
-begins_with_class (b ∷ text) = is_class_letter b
-
--- whether a `\` with such a letter after it is in a text, or a `]` with a `+` after it
-abbrev pub has_class : Text → Bool
-has_class [] = false
-has_class (b ∷ text) = ((b == backslash && begins_with_class text) || (b == close_bracket && begins_with plus text)) || has_class text
+-- signs that are in regular expressions alone: classes of digits, letters and blanks, and a set that is repeated
+abbrev pub expression_signs : List Text
+expression_signs = codes "\\d" ∷ codes "\\w" ∷ codes "\\s" ∷ codes "]+" ∷ []
 
 -- whether a text has a `(` that no `)` follows: one after the last `)`
 abbrev pub has_open_parenthesis : Text → Bool
@@ -53,7 +44,7 @@ has_open_parenthesis text = has_byte open_parenthesis (rest_after_last close_par
 
 -- whether a text has a `)` that no `(` precedes: one before the first `(`
 abbrev pub has_close_parenthesis : Text → Bool
-has_close_parenthesis text = has_byte close_parenthesis (before_first open_parenthesis text)
+has_close_parenthesis text = has_byte close_parenthesis (up_to open_parenthesis text)
 
 -- whether texts between bars are those of a group in parentheses: one of them opens it, and one closes it
 abbrev pub are_of_group : List Text → Bool
@@ -67,19 +58,15 @@ has_braces text = has_byte close_brace (rest_after_first comma (rest_after_first
 abbrev pub is_expression : Text → Bool
 is_expression text =
     (begins_with caret text || (starts_with nat_eq text (codes ".*") || ends_in dollar text))
-    || (has_class text || has_braces text)
+    || (has_one expression_signs text || has_braces text)
 
 -- whether one of the texts between bars is written so, or they are those of a group
 abbrev pub are_expressions : List Text → Bool
 are_expressions texts = list_any is_expression texts || are_of_group texts
 
--- the value of a comparison, if its alternatives, as texts between bars, are written so
-abbrev pub expression_in : Comparison → Option Text
-expression_in wanted = if are_expressions (slice_split is_bar wanted.written) then Some wanted.written else None
-
--- the value with which W11 is reported
+-- the value with which W11 is reported: that of a comparison, if its alternatives, as texts between bars, are written so
 abbrev pub expression : Part → Option Text
-expression p = option_and_then expression_in (comparison_of p)
+expression p = option_and_then (λ wanted. then_some (are_expressions (slice_split is_bar wanted.written)) wanted.written) (comparison_of p)
 
 -- whether items take any text
 abbrev pub take_all : List Item → Bool
@@ -95,24 +82,11 @@ is_always_there plain.Driver = true
 is_always_there (plain.Env name) = true
 is_always_there _ = false
 
--- whether a part looks at what is always there; a match of one device of the chain does not, as it selects that
--- device for substitutions
-abbrev pub looks_at_all : Part → Bool
-looks_at_all (part.Plain m) = is_always_there m.key
-looks_at_all _ = false
-
--- whether there is a comparison, it is by `==`, and it holds for any text
-abbrev pub some_met_by_all : Option Comparison → Bool
-some_met_by_all None = false
-some_met_by_all (Some wanted) = is_equal wanted.operator && list_any take_all wanted.choice
-
--- whether W12 is reported for a part
+-- Whether W12 is reported for a part: a match of the event by `==` that holds for any text. One of one device of the chain is
+-- not reported, as it selects that device for substitutions.
 abbrev pub always_holds : Part → Bool
-always_holds p = looks_at_all p && some_met_by_all (comparison_of p)
-
--- whether a value is `?*`
-abbrev pub is_something : Text → Bool
-is_something value = same_text value (codes "?*")
+always_holds (part.Plain m) = is_always_there m.key && (is_equal m.wanted.operator && list_any take_all m.wanted.choice)
+always_holds _ = false
 
 -- whether a match of the event looks at several texts, or at none: udev then takes `?*` to ask that none of them is
 -- empty, which always holds
@@ -132,19 +106,14 @@ value_of_act (act_kind.Test mask t) = Some t.written
 value_of_act (act_kind.Import (import.Parent names value)) = Some value
 value_of_act _ = None
 
--- whether there is a value, and it is `?*`
-abbrev pub is_some_something : Option Text → Bool
-is_some_something None = false
-is_some_something (Some value) = is_something value
-
--- whether a part has the value `?*` where udev does not take it as a pattern
-abbrev pub has_no_pattern : Part → Bool
-has_no_pattern (part.Plain m) = is_of_members m.key && is_something m.wanted.written
-has_no_pattern (part.Up m) = is_of_tags m.key && is_something m.wanted.written
-has_no_pattern (part.Act a) = is_some_something (value_of_act a.kind)
-has_no_pattern _ = false
+-- the value of a part that udev does not take as a pattern, if it is `?*`
+abbrev pub value_taken : Part → Option Text
+value_taken (part.Plain m) = then_some (is_of_members m.key) m.wanted.written
+value_taken (part.Up m) = then_some (is_of_tags m.key) m.wanted.written
+value_taken (part.Act a) = value_of_act a.kind
+value_taken _ = None
 
 -- whether W14 is reported for a part: by the manual `?*` is a pattern everywhere
 abbrev pub is_no_pattern : Profile → Part → Bool
 is_no_pattern Manual p = false
-is_no_pattern Udev p = has_no_pattern p
+is_no_pattern Udev p = unwrap_or (option_map (λ value. same_text value (codes "?*")) (value_taken p)) false

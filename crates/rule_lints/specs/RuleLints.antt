@@ -1,6 +1,6 @@
 -- What is reported for a rule by itself.
-use Rattle.std.specs.Prelude.{Bool, true, false, if◌then◌else◌, List, [], ◌∷◌, ◌++◌, Option, Some, None, option_map}
-use Rattle.std.specs.List.{filter_map}
+use Rattle.std.specs.Prelude.{Bool, true, false, if◌then◌else◌, List, [], ◌∷◌, ◌++◌, flat_map, Option, Some, None}
+use Rattle.std.specs.Bool.{then_some}
 use Rattle.text_bytes.specs.Text.{Text}
 use Rattle.text_bytes.specs.declared.profile.Profile.{Profile}
 use Rattle.rule_tokens.specs.Grammar.{Placed}
@@ -25,13 +25,12 @@ word_of profile ModeNotOctal w = wrong_mode profile w.part
 word_of profile SignOfShell w = shell_command w.part
 word_of profile RelativeProgram w = relative_program w.part
 word_of profile LetterCase w = wrong_case w.part
-word_of profile NoSuchDevice w = Some (asked w.token)
 word_of profile NameOutsideNet w = name_given w.part
 word_of profile LinkWithDev w = dev_link profile w.part
 word_of profile QuotedName w = quoted_name w.token
 word_of profile NotAPattern w = expression w.part
-word_of profile AlwaysHolds w = if always_holds w.part then Some w.token.parts.head.key else None
-word_of profile NoPatternForUdev w = if is_no_pattern profile w.part then Some w.token.parts.head.key else None
+word_of profile AlwaysHolds w = then_some (always_holds w.part) w.token.parts.head.key
+word_of profile NoPatternForUdev w = then_some (is_no_pattern profile w.part) w.token.parts.head.key
 word_of profile ForbiddenCommand w = forbidden_command w.part
 word_of profile LinkOfNet w = link_given w.part
 word_of profile _ w = None
@@ -53,35 +52,26 @@ is_of_key ForbiddenCommand = false
 is_of_key LinkOfNet = false
 is_of_key _ = true
 
--- a lint about a token, reported with a text
-abbrev pub spot_of : Lint → Placed → Text → Spot Lint
-spot_of lint t word = if is_of_key lint then spot_at_key lint word t else value_spot lint word t
-
 -- a lint about a token, if there is a text with which it is reported
 abbrev pub spots_with : Lint → Placed → Option Text → List (Spot Lint)
 spots_with lint t None = []
-spots_with lint t (Some word) = spot_of lint t word ∷ []
+spots_with lint t (Some word) = (if is_of_key lint then spot_at_key lint word t else value_spot lint word t) ∷ []
 
--- what a lint of single tokens finds in this one
-abbrev pub reported_for : Profile → Lint → WrittenPart → Option (Spot Lint)
-reported_for profile lint w = option_map (spot_of lint w.token) (word_of profile lint w)
+-- Whether a lint of single tokens looks at those of a rule: W8 at those of a rule that holds for no network device, and W26 at
+-- those of one for network devices alone.
+abbrev pub looks_at : Lint → List WrittenPart → Bool
+looks_at NameOutsideNet tokens = is_outside_net tokens
+looks_at LinkOfNet tokens = is_of_net tokens
+looks_at _ tokens = true
 
--- what a lint of single tokens finds in these, in written order
+-- what a lint of single tokens finds in those of a rule, in written order
 abbrev pub reported : Profile → Lint → List WrittenPart → List (Spot Lint)
-reported profile lint tokens = filter_map (reported_for profile lint) tokens
+reported profile lint tokens = if looks_at lint tokens then flat_map (λ w. spots_with lint w.token (word_of profile lint w)) tokens else []
 
--- what a lint of single tokens finds in the token that there may be
-abbrev pub reported_if_there : Profile → Lint → Option WrittenPart → List (Spot Lint)
-reported_if_there profile lint None = []
-reported_if_there profile lint (Some w) = reported profile lint (w ∷ [])
-
--- each W8 of a rule's tokens
-abbrev pub names_reported : Profile → List WrittenPart → List (Spot Lint)
-names_reported profile tokens = if is_outside_net tokens then reported profile NameOutsideNet tokens else []
-
--- each W26 of a rule's tokens
-abbrev pub links_reported : Profile → List WrittenPart → List (Spot Lint)
-links_reported profile tokens = if is_of_net tokens then reported profile LinkOfNet tokens else []
+-- the W5 of a side, given the token of which it is reported
+abbrev pub spots_of_stranger : Option WrittenPart → List (Spot Lint)
+spots_of_stranger None = []
+spots_of_stranger (Some w) = spots_with NoSuchDevice w.token (Some (asked w.token))
 
 -- what is reported for a rule's tokens: the lints in the order of their codes, and those of one code in written order
 unfoldable pub lints_of_rule : Profile → List WrittenPart → List (Spot Lint)
@@ -90,13 +80,13 @@ lints_of_rule profile tokens =
     ++ reported profile SignOfShell tokens)
     ++ reported profile RelativeProgram tokens)
     ++ reported profile LetterCase tokens)
-    ++ reported_if_there profile NoSuchDevice (stranger Event tokens))
-    ++ reported_if_there profile NoSuchDevice (stranger Chain tokens))
-    ++ names_reported profile tokens)
+    ++ spots_of_stranger (stranger Event tokens))
+    ++ spots_of_stranger (stranger Chain tokens))
+    ++ reported profile NameOutsideNet tokens)
     ++ reported profile LinkWithDev tokens)
     ++ reported profile QuotedName tokens)
     ++ reported profile NotAPattern tokens)
     ++ reported profile AlwaysHolds tokens)
     ++ reported profile NoPatternForUdev tokens)
     ++ reported profile ForbiddenCommand tokens)
-    ++ links_reported profile tokens
+    ++ reported profile LinkOfNet tokens

@@ -2,14 +2,13 @@
 ghost use Rattle.std.specs.Prelude.{◌≡◌, ◌≤◌, length, not, option_map};
 ghost use Rattle.std.specs.List.{prefix_len};
 ghost use Rattle.text_bytes.specs.Names.{is_blank};
-ghost use Rattle.rule_lints.specs.Commands.{asked_command, command_of, first_word, forbidden_command, is_bare_script, is_redirected};
-ghost use Rattle.rule_lints.specs.Commands.{is_shell_sign, is_shell_word, is_word_end, has_shell_sign};
+ghost use Rattle.rule_lints.specs.Commands.{command_of, first_word, forbidden_command, has_shell_sign, is_bare_script, is_shell_sign, is_word_end};
 ghost use Rattle.rule_lints.specs.Commands.{open_after, program_name, relative_program, run_command, shell_command};
 
 use crate::parts::change_of;
-use crate::texts::{before_first, has_byte, rest_after_last};
+use crate::texts::{has_byte, rest_after_last};
 use rule_types::{ActKind, Change, Import, Part, RunType};
-use text_bytes::{begins_with, is_blank, unindented};
+use text_bytes::{begins_with, is_blank, unindented, up_to};
 use text_tables::is_among;
 
 /// The shells, by the names of their programs.
@@ -71,24 +70,17 @@ const FORBIDDEN: [&[u8]; 12] = [
     b"wget",
 ];
 
-/// The value with which W2 is reported: a command that is written for a shell, and that no shell runs.
+/// The value with which W2 is reported: a command that is written for a shell, and that no shell runs. Only a shell reads a
+/// first word as a home folder, or as a variable that is set.
 pub(crate) fn shell_command(part: &Part) -> Option<&[u8]>
     ensures { option_map (λ text. text.now) result ≡ shell_command part.now }
 {
     let command = command_of(part)?;
-    let needs_shell = has_shell_sign(command) || is_shell_word(first_word(command));
-    if needs_shell && !is_among(&SHELLS, program_name(command)) {
-        Some(command)
-    } else {
-        None
-    }
-}
-
-/// Whether a word is what only a shell reads as a first one: a home folder, or a variable that is set.
-fn is_shell_word(word: &[u8]) -> bool
-    ensures { result ≡ is_shell_word word.now }
-{
-    begins_with(b'~', word) || has_byte(b'=', before_first(b'/', word))
+    let word = first_word(command);
+    let needs_shell = has_shell_sign(command)
+        || begins_with(b'~', word)
+        || has_byte(b'=', up_to(b'/', word));
+    (needs_shell && !is_among(&SHELLS, program_name(command))).then_some(command)
 }
 
 /// The name of the program of a command.
@@ -103,25 +95,17 @@ pub(crate) fn forbidden_command(part: &Part) -> Option<&[u8]>
     ensures { option_map (λ text. text.now) result ≡ forbidden_command part.now }
 {
     let command = command_of(part)?;
-    if is_among(&FORBIDDEN, program_name(command)) {
-        Some(command)
-    } else {
-        None
-    }
+    is_among(&FORBIDDEN, program_name(command)).then_some(command)
 }
 
 /// The value with which W3 is reported: a command of RUN whose program is not where udev looks for one without a
-/// path.
+/// path, or the name of a script.
 pub(crate) fn relative_program(part: &Part) -> Option<&[u8]>
     ensures { option_map (λ text. text.now) result ≡ relative_program part.now }
 {
     let command = run_command(change_of(part)?)?;
     let word = first_word(command);
-    if is_among(&COMMANDS, word) || is_bare_script(word) {
-        Some(command)
-    } else {
-        None
-    }
+    (is_among(&COMMANDS, word) || is_bare_script(word)).then_some(command)
 }
 
 /// Whether a word is the name of a script, without a path.
@@ -137,7 +121,11 @@ fn command_of(part: &Part) -> Option<&[u8]>
 {
     match part {
         Part::Set(assignment) => run_command(&assignment.change),
-        Part::Act(act) => asked_command(&act.kind),
+        Part::Act(act) => match &act.kind {
+            ActKind::Program(template) => Some(template.written()),
+            ActKind::Import(Import::Program(template)) => Some(template.written()),
+            _ => None,
+        },
         _ => None,
     }
 }
@@ -149,17 +137,6 @@ fn run_command(change: &Change) -> Option<&[u8]>
     match change {
         Change::Run(None, template) => Some(template.written()),
         Change::Run(Some(RunType::Program), template) => Some(template.written()),
-        _ => None,
-    }
-}
-
-/// The program that PROGRAM or IMPORT runs, with its words.
-fn asked_command(act_kind: &ActKind) -> Option<&[u8]>
-    ensures { option_map (λ text. text.now) result ≡ asked_command act_kind.now }
-{
-    match act_kind {
-        ActKind::Program(template) => Some(template.written()),
-        ActKind::Import(Import::Program(template)) => Some(template.written()),
         _ => None,
     }
 }
@@ -197,18 +174,12 @@ fn is_shell_sign(byte: u8, following: &[u8]) -> bool
     ensures { result ≡ is_shell_sign byte following.now }
 {
     ((byte == b'|' || byte == b';' || byte == b'&') && is_word_end(following))
-        || (byte == b'>' && is_redirected(following))
+        || (byte == b'>'
+            && (is_word_end(following)
+                || begins_with(b'/', following)
+                || begins_with(b'&', following)
+                || begins_with(b'>', following)))
         || (byte == b'&' && begins_with(b'&', following))
-}
-
-/// Whether a text goes on like one after a `>` of the shell.
-fn is_redirected(following: &[u8]) -> bool
-    ensures { result ≡ is_redirected following.now }
-{
-    is_word_end(following)
-        || begins_with(b'/', following)
-        || begins_with(b'&', following)
-        || begins_with(b'>', following)
 }
 
 /// Whether a word ends before this text.

@@ -1,12 +1,12 @@
 //! W5 and W26: what a rule asks one device for is of different devices, or of network devices.
 ghost use Rattle.std.specs.Prelude.{◌≡◌, map, option_map};
-ghost use Rattle.rule_lints.specs.Devices.{asked, group_by_stem, group_in_subsystem, group_named, group_of, group_of_driver, group_of_kernel};
-ghost use Rattle.rule_lints.specs.Devices.{group_of_parent, group_of_part, group_of_plain, group_of_up, if_equal, is_kind, is_of_net, is_other};
-ghost use Rattle.rule_lints.specs.Devices.{is_same, number, stranger};
+ghost use Rattle.rule_lints.specs.Devices.{asked, group_by_stem, group_in_subsystem, group_named, group_of, group_of_plain, group_of_up, is_interface_name};
+ghost use Rattle.rule_lints.specs.Devices.{is_kind, is_of_net, is_other, number, stranger};
 
+use crate::parts::is_equal;
 use crate::texts::{has_byte, rest_after_first};
 use rule_tokens::Token;
-use rule_types::{MatchOperator, Part, PlainKey, UpKey, WrittenPart};
+use rule_types::{Part, PlainKey, UpKey, WrittenPart};
 use text_tables::is_among;
 
 /// A kind of devices.
@@ -120,7 +120,7 @@ pub(crate) fn stranger<'w, 'a>(
 {
     let mut first = None;
     for written in tokens {
-        let group = group_of(side, written);
+        let group = group_of(side, &written.part);
         match first {
             None => first = group,
             Some(known) => {
@@ -143,48 +143,29 @@ pub(crate) fn asked<'a>(token: &Token<'a>) -> &'a [u8]
     }
 }
 
-/// The kind of devices that alone meets a token that asks for a device of a side.
-fn group_of(side: Side, written: &WrittenPart<'_>) -> Option<Group>
-    ensures { result ≡ group_of side written.now }
-{
-    group_of_part(side, &written.part)
-}
-
 /// The kind of devices that alone meets a part that asks for a device of a side.
-fn group_of_part(side: Side, part: &Part) -> Option<Group>
-    ensures { result ≡ group_of_part side part.now }
+fn group_of(side: Side, part: &Part) -> Option<Group>
+    ensures { result ≡ group_of side part.now }
 {
     match (side, part) {
-        (Side::Event, Part::Plain(found)) => if_equal(
-            found.wanted.operator,
-            group_of_plain(&found.key, found.wanted.written.as_slice()),
-        ),
-        (Side::Chain, Part::Up(found)) => if_equal(
-            found.wanted.operator,
-            group_of_up(&found.key, found.wanted.written.as_slice()),
-        ),
+        (Side::Event, Part::Plain(found)) if is_equal(found.wanted.operator) => {
+            group_of_plain(&found.key, found.wanted.written.as_slice())
+        }
+        (Side::Chain, Part::Up(found)) if is_equal(found.wanted.operator) => {
+            group_of_up(&found.key, found.wanted.written.as_slice())
+        }
         _ => None,
     }
 }
 
-/// What is known of a match by `==`.
-fn if_equal(operator: MatchOperator, group: Option<Group>) -> Option<Group>
-    ensures { result ≡ if_equal operator group }
-{
-    match operator {
-        MatchOperator::Equal => group,
-        MatchOperator::NotEqual => None,
-    }
-}
-
-/// The kind of devices that alone meets a match of the event by `==`.
+/// The kind of devices that alone meets a match of the event by `==`. One of several names of the kernel is not known.
 fn group_of_plain(key: &PlainKey, value: &[u8]) -> Option<Group>
     ensures { result ≡ group_of_plain key.now value.now }
 {
     match key {
         PlainKey::Attr(name) => group_named(name.as_slice()),
         PlainKey::Subsystem => group_in_subsystem(value),
-        PlainKey::Kernel => group_of_kernel(value),
+        PlainKey::Kernel if !has_byte(b'|', value) => group_by_stem(&STEMS, value),
         _ => None,
     }
 }
@@ -196,20 +177,9 @@ fn group_of_up(key: &UpKey, value: &[u8]) -> Option<Group>
     match key {
         UpKey::Attrs(name) => group_named(name.as_slice()),
         UpKey::Subsystems => group_in_subsystem(value),
-        UpKey::Kernels => group_of_parent(value),
-        UpKey::Drivers => group_of_driver(value),
+        UpKey::Kernels => is_interface_name(value).then_some(Group::UsbInterface),
+        UpKey::Drivers => is_among(&INTERFACE_DRIVERS, value).then_some(Group::UsbInterface),
         UpKey::Tags => None,
-    }
-}
-
-/// The kind of devices that alone has the kernel's names that a value asks for.
-fn group_of_kernel(value: &[u8]) -> Option<Group>
-    ensures { result ≡ group_of_kernel value.now }
-{
-    if has_byte(b'|', value) {
-        None
-    } else {
-        group_by_stem(&STEMS, value)
     }
 }
 
@@ -225,27 +195,11 @@ fn group_by_stem(rows: &[(&[u8], Group)], text: &[u8]) -> Option<Group>
     None
 }
 
-/// The kind of devices whose names, as parents, a value asks for: a `:` after a `-` is in the name of an interface of a
-/// USB device.
-fn group_of_parent(value: &[u8]) -> Option<Group>
-    ensures { result ≡ group_of_parent value.now }
+/// Whether a value asks for the name of an interface of a USB device: it has a `:` after a `-`.
+fn is_interface_name(value: &[u8]) -> bool
+    ensures { result ≡ is_interface_name value.now }
 {
-    if !has_byte(b'|', value) && has_byte(b':', rest_after_first(b'-', value)) {
-        Some(Group::UsbInterface)
-    } else {
-        None
-    }
-}
-
-/// The kind of devices that alone has a driver.
-fn group_of_driver(name: &[u8]) -> Option<Group>
-    ensures { result ≡ group_of_driver name.now }
-{
-    if is_among(&INTERFACE_DRIVERS, name) {
-        Some(Group::UsbInterface)
-    } else {
-        None
-    }
+    !has_byte(b'|', value) && has_byte(b':', rest_after_first(b'-', value))
 }
 
 /// The kind of devices that alone is in a subsystem.
@@ -296,7 +250,7 @@ fn is_other(group: Group, found: Option<Group>) -> bool
 {
     match found {
         None => false,
-        Some(found) => !is_same(group, found),
+        Some(found) => number(group) != number(found),
     }
 }
 
@@ -304,7 +258,7 @@ fn is_other(group: Group, found: Option<Group>) -> bool
 pub(crate) fn is_of_net(tokens: &[WrittenPart<'_>]) -> bool
     ensures { result ≡ is_of_net tokens.now }
 {
-    tokens.iter().any(|written| is_kind(Group::Net, group_of(Side::Event, written)))
+    tokens.iter().any(|written| is_kind(Group::Net, group_of(Side::Event, &written.part)))
 }
 
 /// Whether there is a group, and it is this one.
@@ -313,15 +267,8 @@ fn is_kind(group: Group, found: Option<Group>) -> bool
 {
     match found {
         None => false,
-        Some(found) => is_same(group, found),
+        Some(found) => number(group) == number(found),
     }
-}
-
-/// Whether two kinds are the same.
-fn is_same(group: Group, other: Group) -> bool
-    ensures { result ≡ is_same group other }
-{
-    number(group) == number(other)
 }
 
 /// How many kinds come before a kind.

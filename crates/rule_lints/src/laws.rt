@@ -5,7 +5,7 @@ ghost use Rattle.text_bytes.specs.Text.{Text};
 ghost use Rattle.text_core.specs.Fits.{fits};
 ghost use Rattle.text_core.specs.declared.item.Item.{Item};
 ghost use Rattle.rule_lints.specs.Commands.{has_shell_sign, is_forbidden, lacks_path, lacks_shell};
-ghost use Rattle.rule_lints.specs.Devices.{group_in_subsystem, group_of_driver, group_of_kernel, group_of_parent, is_of_net, stranger};
+ghost use Rattle.rule_lints.specs.Devices.{group_of_plain, group_of_up, is_of_net, stranger};
 ghost use Rattle.rule_lints.specs.Laws.{AreOfOneGroup, AsksForNet, HasBraces, HasOpenParenthesis, HasSignOutside, IsStranger, WritesMode, has_capital};
 ghost use Rattle.rule_lints.specs.Laws.{is_reported_as, is_reported_as_expression, is_reported_to_hold, is_small_text};
 ghost use Rattle.rule_lints.specs.LetterCase.{is_capital, is_small_alias, items_in_place};
@@ -13,7 +13,7 @@ ghost use Rattle.rule_types.specs.Topics.{is_mode};
 ghost use Rattle.rule_lints.specs.Modes.{no_mode};
 ghost use Rattle.rule_lints.specs.Names.{links_by};
 ghost use Rattle.rule_lints.specs.Patterns.{has_braces, has_open_parenthesis, is_expression, is_no_pattern, take_all};
-ghost use Rattle.rule_templates.specs.Template.{Parts as Template};
+ghost use Rattle.rule_tokens.specs.Template.{Parts as Template};
 ghost use Rattle.rule_types.specs.declared.part.ActKind.TheVariants as act_kind;
 ghost use Rattle.rule_types.specs.declared.part.Comparison.{Comparison};
 ghost use Rattle.rule_types.specs.declared.part.Part.{Part};
@@ -76,18 +76,18 @@ pub fn rules_of_network_devices_ask_for_one()
 
 /// Values, of which some ask for a known kind of devices.
 pub fn some_kinds_of_devices()
-    ensures terminal { group_of_kernel (codes "ttyUSB*") ≡ Some Tty }
-    ensures disk { group_of_kernel (codes "sd[a-z]1") ≡ Some Block }
-    ensures either { group_of_kernel (codes "ttyUSB*|sda") ≡ None }
-    ensures other { group_of_kernel (codes "*") ≡ None }
-    ensures interface { group_of_parent (codes "5-2:1.0") ≡ Some UsbInterface }
-    ensures device { group_of_parent (codes "5-2") ≡ None }
-    ensures function { group_of_parent (codes "0000:00:1f.0") ≡ None }
-    ensures driver { group_of_driver (codes "cdc_acm") ≡ Some UsbInterface }
-    ensures subsystem { group_in_subsystem (codes "input") ≡ Some Input }
-    ensures subsystems { group_in_subsystem (codes "input|tty") ≡ None }
-    ensures network { group_in_subsystem (codes "net") ≡ Some Net }
-    ensures card { group_of_kernel (codes "eth0") ≡ Some Net }
+    ensures terminal { group_of_plain plain.Kernel (codes "ttyUSB*") ≡ Some Tty }
+    ensures disk { group_of_plain plain.Kernel (codes "sd[a-z]1") ≡ Some Block }
+    ensures either { group_of_plain plain.Kernel (codes "ttyUSB*|sda") ≡ None }
+    ensures other { group_of_plain plain.Kernel (codes "*") ≡ None }
+    ensures interface { group_of_up up.Kernels (codes "5-2:1.0") ≡ Some UsbInterface }
+    ensures device { group_of_up up.Kernels (codes "5-2") ≡ None }
+    ensures function { group_of_up up.Kernels (codes "0000:00:1f.0") ≡ None }
+    ensures driver { group_of_up up.Drivers (codes "cdc_acm") ≡ Some UsbInterface }
+    ensures subsystem { group_of_plain plain.Subsystem (codes "input") ≡ Some Input }
+    ensures subsystems { group_of_plain plain.Subsystem (codes "input|tty") ≡ None }
+    ensures network { group_of_plain plain.Subsystem (codes "net") ≡ Some Net }
+    ensures card { group_of_plain plain.Kernel (codes "eth0") ≡ Some Net }
 {}
 
 /// Braces are reported if and only if a comma is between them.

@@ -2,7 +2,7 @@
 ghost use Rattle.std.specs.Prelude.{◌≡◌, ◌≤◌, length, not, option_map};
 ghost use Rattle.std.specs.List.{list_all, list_any, prefix_len, zip};
 ghost use Rattle.rule_lints.specs.LetterCase.{begin_with, has_small_digit, is_byte_in, is_capital, is_many, is_miswritten, is_small_alias, items_in_place};
-ghost use Rattle.rule_lints.specs.LetterCase.{miswritten, writing_named, writing_of, writing_of_plain, writing_of_up, wrong_case};
+ghost use Rattle.rule_lints.specs.LetterCase.{miswritten, writing_named, writing_of, wrong_case};
 
 use crate::parts::comparison_of;
 use rule_types::{Comparison, Part, PlainKey, UpKey};
@@ -58,29 +58,17 @@ fn writing_of(part: &Part) -> Option<Writing>
     ensures { result ≡ writing_of part.now }
 {
     match part {
-        Part::Plain(asked) => writing_of_plain(&asked.key),
-        Part::Up(asked) => writing_of_up(&asked.key),
-        _ => None,
-    }
-}
-
-/// How the kernel writes what a match of the event looks at.
-fn writing_of_plain(key: &PlainKey) -> Option<Writing>
-    ensures { result ≡ writing_of_plain key.now }
-{
-    match key {
-        PlainKey::Attr(name) => writing_named(name.as_slice()),
-        PlainKey::Env(name) if name.as_slice() == b"MODALIAS".as_slice() => Some(Writing::Alias),
-        _ => None,
-    }
-}
-
-/// How the kernel writes what a match of one device of the chain looks at.
-fn writing_of_up(key: &UpKey) -> Option<Writing>
-    ensures { result ≡ writing_of_up key.now }
-{
-    match key {
-        UpKey::Attrs(name) => writing_named(name.as_slice()),
+        Part::Plain(asked) => match &asked.key {
+            PlainKey::Attr(name) => writing_named(name.as_slice()),
+            PlainKey::Env(name) if name.as_slice() == b"MODALIAS".as_slice() => {
+                Some(Writing::Alias)
+            }
+            _ => None,
+        },
+        Part::Up(asked) => match &asked.key {
+            UpKey::Attrs(name) => writing_named(name.as_slice()),
+            _ => None,
+        },
         _ => None,
     }
 }
@@ -151,7 +139,7 @@ fn is_byte_in(first: u8, last: u8, item: &Item) -> bool
 }
 
 /// Whether items begin with bytes, one item for each.
-pub fn begin_with(text: &[u8], items: &[Item]) -> bool
+pub(crate) fn begin_with(text: &[u8], items: &[Item]) -> bool
     ensures { result ≡ begin_with text.now items.now }
 {
     text.len() <= items.len() && all_in_place(text, items)
@@ -183,7 +171,7 @@ fn length_in_place(items: &[Item]) -> usize
 }
 
 /// Whether an item takes any bytes.
-pub fn is_many(item: &Item) -> bool
+pub(crate) fn is_many(item: &Item) -> bool
     ensures { result ≡ is_many item.now }
 {
     matches!(item, Item::Many)

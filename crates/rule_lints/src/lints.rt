@@ -1,10 +1,7 @@
 //! What is reported for a rule by itself.
-ghost use Rattle.std.specs.Prelude.{◌≡◌, ◌∷◌, ◌++◌, [], IfOk, OnOk, option_map};
-ghost use Rattle.std.specs.Bool.{then_some};
-ghost use Rattle.rule_lints.specs.declared.lint.Lint.TheVariants.{NoSuchDevice};
+ghost use Rattle.std.specs.Prelude.{◌≡◌, ◌++◌, IfOk, OnOk, option_map};
 ghost use Rattle.rule_lints.specs.Devices.{stranger};
-ghost use Rattle.rule_lints.specs.RuleLints.{is_of_key, links_reported, lints_of_rule, names_reported, reported, reported_if_there};
-ghost use Rattle.rule_lints.specs.RuleLints.{spot_of, spots_with, word_of};
+ghost use Rattle.rule_lints.specs.RuleLints.{is_of_key, lints_of_rule, looks_at, reported, spots_of_stranger, spots_with, word_of};
 
 use crate::commands::{forbidden_command, relative_program, shell_command};
 use crate::devices::{Side, asked, is_of_net, stranger};
@@ -33,68 +30,38 @@ pub fn lints_of_rule(
     add(alloc, profile, &mut spots, Lint::SignOfShell, tokens)?;
     add(alloc, profile, &mut spots, Lint::RelativeProgram, tokens)?;
     add(alloc, profile, &mut spots, Lint::LetterCase, tokens)?;
-    add_stranger(alloc, profile, &mut spots, Side::Event, tokens)?;
-    add_stranger(alloc, profile, &mut spots, Side::Chain, tokens)?;
-    add_names(alloc, profile, &mut spots, tokens)?;
+    add_stranger(alloc, &mut spots, Side::Event, tokens)?;
+    add_stranger(alloc, &mut spots, Side::Chain, tokens)?;
+    add(alloc, profile, &mut spots, Lint::NameOutsideNet, tokens)?;
     add(alloc, profile, &mut spots, Lint::LinkWithDev, tokens)?;
     add(alloc, profile, &mut spots, Lint::QuotedName, tokens)?;
     add(alloc, profile, &mut spots, Lint::NotAPattern, tokens)?;
     add(alloc, profile, &mut spots, Lint::AlwaysHolds, tokens)?;
     add(alloc, profile, &mut spots, Lint::NoPatternForUdev, tokens)?;
     add(alloc, profile, &mut spots, Lint::ForbiddenCommand, tokens)?;
-    add_links(alloc, profile, &mut spots, tokens)?;
+    add(alloc, profile, &mut spots, Lint::LinkOfNet, tokens)?;
     Ok(spots)
 }
 
 /// Adds the W5 of a rule's tokens of a side, if any.
 fn add_stranger(
     alloc: Global,
-    profile: Profile,
     spots: &mut Vec<Spot<Lint>>,
     side: Side,
     tokens: &[WrittenPart<'_>],
 ) -> Result<(), AllocError>
-    ensures { OnOk result (spots.new.items ≡ spots.old.items ++ reported_if_there profile NoSuchDevice (stranger side tokens.now)) }
+    ensures { OnOk result (spots.new.items ≡ spots.old.items ++ spots_of_stranger (stranger side tokens.now)) }
 {
     match stranger(side, tokens) {
         None => Ok(()),
-        Some(written) => add_one(alloc, profile, spots, Lint::NoSuchDevice, written),
+        Some(written) => {
+            let token = &written.token;
+            add_word(alloc, spots, Lint::NoSuchDevice, Some(asked(token)), token)
+        }
     }
 }
 
-/// Adds each W8 of a rule's tokens.
-fn add_names(
-    alloc: Global,
-    profile: Profile,
-    spots: &mut Vec<Spot<Lint>>,
-    tokens: &[WrittenPart<'_>],
-) -> Result<(), AllocError>
-    ensures { OnOk result (spots.new.items ≡ spots.old.items ++ names_reported profile tokens.now) }
-{
-    if is_outside_net(tokens) {
-        add(alloc, profile, spots, Lint::NameOutsideNet, tokens)
-    } else {
-        Ok(())
-    }
-}
-
-/// Adds each W26 of a rule's tokens.
-fn add_links(
-    alloc: Global,
-    profile: Profile,
-    spots: &mut Vec<Spot<Lint>>,
-    tokens: &[WrittenPart<'_>],
-) -> Result<(), AllocError>
-    ensures { OnOk result (spots.new.items ≡ spots.old.items ++ links_reported profile tokens.now) }
-{
-    if is_of_net(tokens) {
-        add(alloc, profile, spots, Lint::LinkOfNet, tokens)
-    } else {
-        Ok(())
-    }
-}
-
-/// Adds what a lint of single tokens finds in these.
+/// Adds what a lint of single tokens finds in a rule's tokens.
 fn add(
     alloc: Global,
     profile: Profile,
@@ -104,29 +71,25 @@ fn add(
 ) -> Result<(), AllocError>
     ensures { OnOk result (spots.new.items ≡ spots.old.items ++ reported profile lint tokens.now) }
 {
+    if !looks_at(lint, tokens) {
+        return Ok(());
+    }
     for written in tokens {
-        add_one(alloc, profile, spots, lint, written)?;
+        let word = word_of(profile, lint, written);
+        add_word(alloc, spots, lint, word, &written.token)?;
     }
     Ok(())
 }
 
-/// Adds what a lint of single tokens finds in this one.
-fn add_one(
-    alloc: Global,
-    profile: Profile,
-    spots: &mut Vec<Spot<Lint>>,
-    lint: Lint,
-    written: &WrittenPart<'_>,
-) -> Result<(), AllocError>
-    ensures { OnOk result (spots.new.items ≡ spots.old.items ++ reported profile lint (written.now ∷ [])) }
+/// Whether a lint of single tokens looks at those of a rule.
+fn looks_at(lint: Lint, tokens: &[WrittenPart<'_>]) -> bool
+    ensures { result ≡ looks_at lint tokens.now }
 {
-    add_word(
-        alloc,
-        spots,
-        lint,
-        word_of(profile, lint, written),
-        &written.token,
-    )
+    match lint {
+        Lint::NameOutsideNet => is_outside_net(tokens),
+        Lint::LinkOfNet => is_of_net(tokens),
+        _ => true,
+    }
 }
 
 /// Adds a lint about a token, if there is a text with which it is reported. It is about the token's key or about its
@@ -141,26 +104,15 @@ pub fn add_word(
     ensures { OnOk result (spots.new.items ≡ spots.old.items ++ spots_with lint token.now (option_map (λ text. text.now) word.entry)) }
 {
     if let Some(word) = word {
-        spots.push(spot_of(alloc, lint, word, token)?)?;
+        let word = Bytes::copy_of(alloc, word)?;
+        let spot = if is_of_key(lint) {
+            spot_at_key(lint, word, token)
+        } else {
+            value_spot(lint, word, token)
+        };
+        spots.push(spot)?;
     }
     Ok(())
-}
-
-/// A lint about a token, reported with a text.
-fn spot_of(
-    alloc: Global,
-    lint: Lint,
-    word: &[u8],
-    token: &Token<'_>,
-) -> Result<Spot<Lint>, AllocError>
-    ensures { IfOk result (λ spot. spot ≡ spot_of lint token.now word.now) }
-{
-    let word = Bytes::copy_of(alloc, word)?;
-    if is_of_key(lint) {
-        Ok(spot_at_key(lint, word, token))
-    } else {
-        Ok(value_spot(lint, word, token))
-    }
 }
 
 /// Whether a lint is about a token's key, and not about its value.
@@ -194,26 +146,16 @@ fn word_of<'w>(profile: Profile, lint: Lint, written: &'w WrittenPart<'_>) -> Op
         Lint::SignOfShell => shell_command(&written.part),
         Lint::RelativeProgram => relative_program(&written.part),
         Lint::LetterCase => wrong_case(&written.part),
-        Lint::NoSuchDevice => Some(asked(&written.token)),
         Lint::NameOutsideNet => name_given(&written.part),
         Lint::LinkWithDev => dev_link(profile, &written.part),
         Lint::QuotedName => quoted_name(&written.token),
         Lint::NotAPattern => expression(&written.part),
-        Lint::AlwaysHolds => key_if(always_holds(&written.part), written),
-        Lint::NoPatternForUdev => key_if(is_no_pattern(profile, &written.part), written),
+        Lint::AlwaysHolds => always_holds(&written.part).then_some(written.token.key()),
+        Lint::NoPatternForUdev => {
+            is_no_pattern(profile, &written.part).then_some(written.token.key())
+        }
         Lint::ForbiddenCommand => forbidden_command(&written.part),
         Lint::LinkOfNet => link_given(&written.part),
         _ => None,
-    }
-}
-
-/// The key of a token, if it is reported.
-fn key_if<'w>(reported: bool, written: &'w WrittenPart<'_>) -> Option<&'w [u8]>
-    ensures { option_map (λ key. key.now) result ≡ then_some reported written.now.token.parts.head.key }
-{
-    if reported {
-        Some(written.token.key())
-    } else {
-        None
     }
 }

@@ -3,10 +3,10 @@ ghost use Rattle.std.specs.Prelude.{◌≡◌, ◌||◌, option_map};
 ghost use Rattle.text_bytes.specs.Names.{space, tab};
 ghost use Rattle.text_bytes.specs.Texts.{begins_with};
 ghost use Rattle.rule_types.specs.Topics.{is_mode};
-ghost use Rattle.rule_lints.specs.Modes.{is_mode_by, mode_in, wrong_mode};
+ghost use Rattle.rule_lints.specs.Modes.{is_mode_by, mode_given, wrong_mode};
 
 use crate::parts::change_of;
-use rule_templates::has_sign;
+use rule_tokens::has_sign;
 use rule_types::{Change, Part, Target, mode_of};
 use text_bytes::{Profile, begins_with};
 
@@ -14,7 +14,7 @@ use text_bytes::{Profile, begins_with};
 pub(crate) fn wrong_mode(profile: Profile, part: &Part) -> Option<&[u8]>
     ensures { option_map (λ text. text.now) result ≡ wrong_mode profile part.now }
 {
-    let text = mode_in(change_of(part)?)?;
+    let text = mode_given(part)?;
     if has_sign(text) || is_mode_by(profile, text) {
         None
     } else {
@@ -22,11 +22,11 @@ pub(crate) fn wrong_mode(profile: Profile, part: &Part) -> Option<&[u8]>
     }
 }
 
-/// The text that a change gives to MODE.
-fn mode_in(change: &Change) -> Option<&[u8]>
-    ensures { option_map (λ text. text.now) result ≡ mode_in change.now }
+/// The text that a part gives to MODE.
+fn mode_given(part: &Part) -> Option<&[u8]>
+    ensures { option_map (λ text. text.now) result ≡ mode_given part.now }
 {
-    match change {
+    match change_of(part)? {
         Change::Text(Target::Mode, template) => Some(template.written()),
         _ => None,
     }

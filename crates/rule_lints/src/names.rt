@@ -2,8 +2,7 @@
 ghost use Rattle.std.specs.Prelude.{◌≡◌, codes, nat_eq, option_map};
 ghost use Rattle.std.specs.List.{list_any, slice_split, starts_with};
 ghost use Rattle.text_bytes.specs.Names.{is_blank};
-ghost use Rattle.rule_lints.specs.Names.{dev_link, excludes_net, is_outside_net, link_given, links_by, links_in, meets};
-ghost use Rattle.rule_lints.specs.Names.{name_given, name_in, quoted_name};
+ghost use Rattle.rule_lints.specs.Names.{dev_link, excludes_net, is_outside_net, link_given, meets, name_given, quoted_name};
 
 use crate::parts::change_of;
 use crate::texts::has_byte;
@@ -40,47 +39,24 @@ fn meets(text: &[u8], wanted: &Comparison) -> bool
     }
 }
 
-/// The value with which W8 is reported, in a rule that holds for no network device.
+/// The value with which W8 is reported, in a rule that holds for no network device: the text that a part gives to NAME.
 pub(crate) fn name_given(part: &Part) -> Option<&[u8]>
     ensures { option_map (λ text. text.now) result ≡ name_given part.now }
 {
-    name_in(change_of(part)?)
-}
-
-/// The text that a change gives to NAME.
-fn name_in(change: &Change) -> Option<&[u8]>
-    ensures { option_map (λ text. text.now) result ≡ name_in change.now }
-{
-    match change {
+    match change_of(part)? {
         Change::Text(Target::Name, template) => Some(template.written()),
         _ => None,
     }
 }
 
-/// The value with which W9 is reported: links, one of which begins with `/dev/`.
+/// The value with which W9 is reported: links, one of which begins with `/dev/`. udev itself leaves that out.
 pub(crate) fn dev_link(profile: Profile, part: &Part) -> Option<&[u8]>
     ensures { option_map (λ text. text.now) result ≡ dev_link profile part.now }
 {
-    links_by(profile, links_in(change_of(part)?)?)
-}
-
-/// Links that do not become what is written, if one of them begins with `/dev/`: udev itself leaves that out.
-fn links_by(profile: Profile, links: &[u8]) -> Option<&[u8]>
-    ensures { option_map (λ text. text.now) result ≡ links_by profile links.now }
-{
+    let links = link_given(part)?;
     match profile {
-        Profile::Manual if has_dev(links) => Some(links),
-        _ => None,
-    }
-}
-
-/// The text that a change gives to SYMLINK.
-fn links_in(change: &Change) -> Option<&[u8]>
-    ensures { option_map (λ text. text.now) result ≡ links_in change.now }
-{
-    match change {
-        Change::Text(Target::Symlink, template) => Some(template.written()),
-        _ => None,
+        Profile::Manual => has_dev(links).then_some(links),
+        Profile::Udev => None,
     }
 }
 
@@ -97,7 +73,10 @@ fn has_dev(links: &[u8]) -> bool
 pub(crate) fn link_given(part: &Part) -> Option<&[u8]>
     ensures { option_map (λ text. text.now) result ≡ link_given part.now }
 {
-    links_in(change_of(part)?)
+    match change_of(part)? {
+        Change::Text(Target::Symlink, template) => Some(template.written()),
+        _ => None,
+    }
 }
 
 /// The text in braces with which W10 is reported.
@@ -105,9 +84,5 @@ pub(crate) fn quoted_name<'a>(token: &Token<'a>) -> Option<&'a [u8]>
     ensures { option_map (λ text. text.now) result ≡ quoted_name token.now }
 {
     let name = token.attribute()?;
-    if has_byte(b'"', name) {
-        Some(name)
-    } else {
-        None
-    }
+    has_byte(b'"', name).then_some(name)
 }

@@ -15,7 +15,7 @@ pub(crate) fn change_of(part: &Part) -> Option<&Change>
 }
 
 /// What a part compares with, if it is a match.
-pub fn comparison_of(part: &Part) -> Option<&Comparison>
+pub(crate) fn comparison_of(part: &Part) -> Option<&Comparison>
     ensures { option_map (λ wanted. wanted.now) result ≡ comparison_of part.now }
 {
     match part {

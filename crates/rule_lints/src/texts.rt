@@ -1,10 +1,10 @@
 //! Bytes of a text, and what follows them.
 ghost use Rattle.std.specs.Prelude.{◌≡◌, ◌==◌, ◌≤◌, length, not};
 ghost use Rattle.std.specs.List.{position_or_len, suffix_len};
-ghost use Rattle.rule_lints.specs.Texts.{before_first, has_byte, rest_after_first, rest_after_last};
+ghost use Rattle.rule_lints.specs.Texts.{has_byte, rest_after_first, rest_after_last};
 
 /// Whether a text has this byte.
-pub fn has_byte(byte: u8, text: &[u8]) -> bool
+pub(crate) fn has_byte(byte: u8, text: &[u8]) -> bool
     ensures { result ≡ has_byte byte text.now }
 {
     text.iter().any(|other| *other == byte)
@@ -18,14 +18,6 @@ pub(crate) fn rest_after_first(byte: u8, text: &[u8]) -> &[u8]
     let passed = length_before(byte, text) + 1;
     let (_, following) = text.split_at(passed.min(text.len()));
     following
-}
-
-/// What comes before the first such byte of a text, all of it if it has none.
-pub(crate) fn before_first(byte: u8, text: &[u8]) -> &[u8]
-    ensures { result.now ≡ before_first byte text.now }
-{
-    let (prefix, _) = text.split_at(length_before(byte, text));
-    prefix
 }
 
 /// How many bytes come before the first such byte of a text.

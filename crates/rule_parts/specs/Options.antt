@@ -8,7 +8,7 @@ use Rattle.text_bytes.specs.Texts.{following}
 use Rattle.text_bytes.specs.Numbers.{decimal_below}
 use Rattle.text_bytes.specs.declared.profile.Profile.{Profile}
 use Rattle.text_bytes.specs.declared.profile.Profile.TheVariants as profile
-use Rattle.rule_templates.specs.Integers.{integer_of, natural_of}
+use Rattle.rule_tokens.specs.Integers.{integer_of, natural_of}
 use Rattle.rule_types.specs.declared.rule_option.RuleOption.{RuleOption}
 use Rattle.rule_types.specs.declared.rule_option.RuleOption.TheVariants.{LinkPriority, KeepEscapes, ReplaceEscapes, Watch}
 use Rattle.rule_types.specs.declared.rule_option.RuleOption.TheVariants.{NoWatch, DbPersist, LogLevel, Ignored}

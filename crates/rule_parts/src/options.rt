@@ -4,7 +4,7 @@ ghost use Rattle.text_bytes.specs.Texts.{following};
 ghost use Rattle.rule_parts.specs.Options.{as_level, as_priority, below_zero, beside, from_zero, level_of, number_of, priority_of};
 ghost use Rattle.rule_parts.specs.Options.{is_ignored, is_known_option, option_by, option_of, other_option, udev_option, udev_other};
 
-use rule_templates::{integer_of, natural_of};
+use rule_tokens::{integer_of, natural_of};
 use rule_types::RuleOption;
 use text_bytes::{Profile, decimal_below};
 

@@ -8,7 +8,7 @@ ghost use Rattle.rule_parts.specs.Values.{as_choice, manual_choice, read_choice,
 use crate::finding::{PartFault, wrong};
 use crate::options::option_of;
 use file_messages::MessageKind;
-use rule_templates::{Template, TemplateFault};
+use rule_tokens::{Template, TemplateFault};
 use rule_types::RuleOption;
 use std::alloc::Global;
 use text_bytes::{Bytes, Profile};

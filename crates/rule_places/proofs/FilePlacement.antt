@@ -7,8 +7,8 @@ use Rattle.text_bytes.specs.Lines.{NumberedLine, numbered_lines}
 use Rattle.text_bytes.specs.declared.profile.Profile.{Profile}
 use Rattle.text_bytes.specs.declared.source_file.SourceFile.{SourceFile}
 use Rattle.file_messages.specs.declared.message.MessageKind.{MessageKind}
-use Rattle.rule_jumps.specs.Jumps.{landings}
-use Rattle.rule_jumps.specs.declared.jumps.Landing.{Landing}
+use Rattle.rule_types.specs.Jumps.{landings}
+use Rattle.rule_types.specs.declared.jumps.Landing.{Landing}
 use Rattle.rule_core.specs.Ends.{abandoned}
 use Rattle.rule_core.specs.Lines.{joined_lines}
 use Rattle.rule_core.specs.Drafts.{draft_of}

@@ -3,7 +3,7 @@ use Rattle.std.proofs.Common.{◌≡◌, ℕ, ◌<◌, true, nat_lt, List, [], �
 use Rattle.file_messages.specs.declared.message.MessageKind.TheVariants.{LineTooLong}
 use Rattle.text_bytes.specs.declared.profile.Profile.{Profile}
 use Rattle.file_messages.specs.declared.message.MessageKind.{MessageKind}
-use Rattle.rule_jumps.specs.declared.jumps.Landing.{Landing}
+use Rattle.rule_types.specs.declared.jumps.Landing.{Landing}
 use Rattle.rule_core.specs.Drafts.{Draft, draft_of, most_bytes}
 use Rattle.rule_core.specs.Rules.{line_findings}
 use Rattle.rule_types.specs.Spots.{spot}

@@ -1,3 +1,13 @@
+pub mod Firsts
+pub mod Cutting
+pub mod Pairs
+pub mod Staying
+pub mod Twice
+pub mod Silence
+pub mod Computing
+pub mod SameRules
+pub mod Respacing
+pub mod Cuts
 pub mod Capping
 pub mod Keeping
 pub mod Rising

@@ -1,7 +1,7 @@
 -- Findings of lines, one line after another.
 use Rattle.std.proofs.Common.{◌≡◌, ℕ, ◌+◌, List, [], ◌∷◌, ◌++◌, length, ap, sym, ◌∙◌, append_assoc}
 use Rattle.file_messages.specs.declared.message.MessageKind.{MessageKind}
-use Rattle.rule_jumps.specs.declared.jumps.Landing.{Landing}
+use Rattle.rule_types.specs.declared.jumps.Landing.{Landing}
 use Rattle.rule_core.specs.Rules.{Reading}
 use Rattle.rule_places.specs.Files.{placed_from, placed_line}
 use Rattle.rule_places.specs.declared.kept.KeptLine.{KeptLine}

@@ -10,7 +10,7 @@ use Rattle.file_messages.specs.declared.message.MessageKind.{MessageKind}
 use Rattle.file_messages.specs.declared.message.MessageKind.TheVariants.{BadValue, LineTooLong, NoLaterLabel, RuleWithoutEffect, LabelUnused, CommaExpected, BlankExpected, LeadingComma, BlankBeforeComma}
 use Rattle.text_bytes.specs.declared.profile.Profile.{Profile}
 use Rattle.text_bytes.specs.declared.profile.Profile.TheVariants as profile
-use Rattle.rule_jumps.specs.declared.jumps.Landing.{Landing}
+use Rattle.rule_types.specs.declared.jumps.Landing.{Landing}
 use Rattle.rule_tokens.specs.Grammar.{AllAre, BeginsOther, Item, Placed, is_gap_byte}
 use Rattle.rule_tokens.specs.Places.{IsSlice, LiesIn}
 use Rattle.rule_tokens.specs.Values.{ends_in}

@@ -1,3 +1,12 @@
+pub mod WholeLines
+pub mod Gaps
+pub mod Stretches
+pub mod Rewritten
+pub mod Faults
+pub mod Proposed
+pub mod Alike
+pub mod Mended
+pub mod FormatLaws
 pub mod Kept
 pub mod Placed
 pub mod Abandoned

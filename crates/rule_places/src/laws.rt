@@ -6,7 +6,7 @@ ghost use Rattle.text_bytes.specs.Lines.{numbered_lines};
 ghost use Rattle.file_messages.specs.declared.message.MessageKind.TheVariants.{LineTooLong};
 ghost use Rattle.text_bytes.specs.declared.profile.Profile as profiles;
 ghost use Rattle.text_bytes.specs.declared.source_file.SourceFile as files;
-ghost use Rattle.rule_jumps.specs.declared.jumps.Landing as jumps;
+ghost use Rattle.rule_types.specs.declared.jumps.Landing as jumps;
 ghost use Rattle.rule_core.specs.Drafts.{draft_of, most_bytes};
 ghost use Rattle.rule_core.specs.Ends.{abandoned};
 ghost use Rattle.rule_core.specs.Lines.{joined_lines};

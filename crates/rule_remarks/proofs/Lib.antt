@@ -1,7 +1,15 @@
+pub mod AccountTables
+pub mod Cutting
+pub mod Reporting
+pub mod FirstPairs
+pub mod Likeness
+pub mod WordSets
+pub mod Beginnings
+pub mod Chances
+pub mod Later
 pub mod Late
 pub mod Tokens
 pub mod WayUp
 pub mod Placement
 pub mod OfRules
 pub mod ByLines
-pub mod Fields

@@ -4,15 +4,15 @@ use Rattle.std.specs.List.{AllByRecursion}
 use Rattle.text_bytes.specs.Lines.{NumberedLine}
 use Rattle.text_bytes.specs.declared.profile.Profile.TheVariants.{Udev}
 use Rattle.file_messages.specs.declared.message.MessageKind.{MessageKind}
-use Rattle.rule_jumps.specs.Jumps.{landings}
-use Rattle.rule_jumps.specs.declared.jumps.Landing.{Landing}
+use Rattle.rule_types.specs.Jumps.{landings}
+use Rattle.rule_types.specs.declared.jumps.Landing.{Landing}
 use Rattle.rule_core.specs.Drafts.{Draft, draft_of}
 use Rattle.rule_core.specs.Ends.{abandoned}
 use Rattle.rule_core.specs.Lines.{joined_lines}
 use Rattle.rule_core.specs.Rules.{names_of, reading_of}
 use Rattle.rule_types.specs.Tokens.{tokens_in}
 use Rattle.rule_types.specs.declared.spot.Spot.{Spot}
-use Rattle.rule_pairs.specs.Accounts.{Accounts}
+use Rattle.rule_remarks.specs.Accounts.{Accounts}
 use Rattle.rule_places.specs.Kept.{kept_lines}
 use Rattle.rule_places.specs.Placed.{placed}
 use Rattle.rule_places.specs.Shown.{IsAmong}

@@ -1,11 +1,11 @@
 -- Where what is reported for a rule is in its line.
-use Rattle.std.proofs.Common.{◌≡◌, ℕ, zero, suc, Bool, true, false, cond, nat_lt, true≢false, ◌||◌, List, [], ◌∷◌, ◌++◌, flat_map, filter_map, slice_get, length, Option, Some, None, option_map, Result, Ok, Err, refl, subst, sym}
+use Rattle.std.proofs.Common.{◌≡◌, ℕ, zero, suc, Bool, true, false, cond, nat_lt, ◌||◌, List, [], ◌∷◌, ◌++◌, flat_map, filter_map, slice_get, length, Option, Some, None, option_map, option_to_list, Result, Ok, Err, refl, subst}
 use Rattle.std.specs.List.{AllByRecursion, cons_option, find}
 use Rattle.text_bytes.specs.Texts.{is_empty}
 use Rattle.file_messages.specs.declared.message.MessageKind.{MessageKind}
 use Rattle.file_messages.specs.declared.message.MessageKind.TheVariants.{AttributeElsewhere, BadAttributeSubstitution, BadSubstitution, BadValue, EmptyValue, LineTooLong, OldSubsystemName, ResultBeforeProgram}
 use Rattle.text_bytes.specs.declared.profile.Profile.TheVariants.{Udev}
-use Rattle.rule_templates.specs.Reading.{is_faulty}
+use Rattle.rule_tokens.specs.TemplateReading.{is_faulty}
 use Rattle.rule_tokens.specs.Grammar.{Item, Placed, compares}
 use Rattle.rule_tokens.specs.Places.{IsSlice, LiesIn}
 use Rattle.rule_tokens.specs.declared.kinds.Operator.{Operator}
@@ -20,24 +20,28 @@ use Rattle.rule_parts.specs.declared.finding.Finding.{Finding}
 use Rattle.rule_core.specs.Drafts.{draft, draft_of, draft_with, idle_spot, items_as, most_bytes, parts_of, with_part, written_part}
 use Rattle.rule_core.specs.Effects.{lacks_effect, unknown_option}
 use Rattle.rule_types.specs.Tokens.{WrittenPart, tokens_in}
-use Rattle.rule_pairs.specs.Accounts.{Accounts, given_in}
-use Rattle.rule_pairs.specs.Pairs.{message_of, pair_findings}
-use Rattle.rule_pairs.specs.declared.accounts.AccountKind.TheVariants.{User, Group}
-use Rattle.rule_pairs.specs.declared.accounts.Given.{Given}
-use Rattle.rule_pairs.specs.declared.accounts.Given.TheVariants as given
-use Rattle.rule_pairs.specs.declared.pair_finding.PairFinding.{PairFinding}
-use Rattle.rule_pairs.specs.declared.pair_finding.PairKind.{PairKind}
-use Rattle.rule_pairs.specs.declared.pair_finding.PairKind.TheVariants.{Same, Against}
+use Rattle.rule_remarks.specs.Accounts.{Accounts, given_in}
+use Rattle.rule_remarks.specs.Pairs.{message_of, pair_findings}
+use Rattle.rule_remarks.specs.declared.accounts.AccountKind.TheVariants.{User, Group}
+use Rattle.rule_remarks.specs.declared.accounts.Given.{Given}
+use Rattle.rule_remarks.specs.declared.accounts.Given.TheVariants as given
+use Rattle.rule_remarks.specs.declared.pair_finding.PairFinding.{PairFinding}
+use Rattle.rule_remarks.specs.declared.pair_finding.PairKind.{PairKind}
+use Rattle.rule_remarks.specs.declared.pair_finding.PairKind.TheVariants.{Same, Against}
 use Rattle.rule_places.specs.Laws.{IsQuotedThere, IsTextThere, is_about_text, is_about_value}
-use Rattle.rule_types.specs.Spots.{value_spot}
 use Rattle.rule_core.specs.Spots.{attribute_spot, key_spot, token_spot, whole_spot}
 use Rattle.rule_types.specs.declared.spot.Spot.{Spot}
-use Rattle.rule_places.proofs.PartPlacement.{AllPresent, IsPresent, attribute_in_place, both, key_in_place, one_or_none, value_in_place}
+use Rattle.rule_places.proofs.PartPlacement.{AllPresent, attribute_in_place, both, key_in_place, one_or_none, value_in_place}
 use Rattle.rule_places.proofs.Placement.{all_lie, weaker}
 use Rattle.rule_remarks.specs.Attributes.{is_bad_name, is_elsewhere}
-use Rattle.rule_remarks.specs.Remarks.{attribute_remarks, fault_spot, is_of_key, is_program, is_result, late_program, order_remarks, pair_remark, remarks_by, rule_remarks, token_remarks, value_remarks}
+use Rattle.rule_remarks.specs.Remarks.{attribute_remarks, is_program, is_result, late_program, pair_remark, remarks_by, rule_remarks, token_remarks, value_remarks}
 use Rattle.rule_remarks.specs.Rules.{line_remarks}
 use Rattle.rule_remarks.specs.Values.{assigned_fault, compared_fault, filled_fault, given_fault, text_fault, value_fault}
+
+-- whether what is wrong with a value is reported at the key: that it is empty
+abbrev is_of_key : MessageKind → Bool
+is_of_key EmptyValue = true
+is_of_key _ = false
 
 -- what is wrong with a value is reported for the value or of the key
 abbrev IsOfValue : Option MessageKind → Type 0
@@ -103,20 +107,10 @@ value_kind accounts k o text = by (compares o)
     by true = compared_kind k text
     by false = assigned_kind accounts k text
 
-keys_are_text : (kind : MessageKind) → is_of_key kind ≡ true → is_about_text kind ≡ true
-keys_are_text EmptyValue e = refl
-keys_are_text _ e = absurd (true≢false (sym e))
-
-fault_in_place : (line : List ℕ) (kind : MessageKind) (t : Placed) → IsSlice line t → (is_of_key kind || is_about_value kind) ≡ true → IsPresent line (fault_spot kind t)
-fault_in_place line kind t slice h = by (is_of_key kind) refl h
-  where
-    by : (b : Bool) → is_of_key kind ≡ b → (b || is_about_value kind) ≡ true → IsPresent line (cond b (key_spot kind t) (value_spot kind (meaning_of t) t))
-    by true e g = key_in_place line kind t slice (keys_are_text kind e)
-    by false e g = value_in_place line kind (meaning_of t) t slice g
-
 value_reported : (line : List ℕ) (t : Placed) (fault : Option MessageKind) → IsSlice line t → IsOfValue fault → AllPresent line (value_remarks fault t)
 value_reported line t None slice h = tt
-value_reported line t (Some kind) slice h = (fault_in_place line kind t slice h, tt)
+value_reported line t (Some EmptyValue) slice h = (key_in_place line EmptyValue t slice refl, tt)
+value_reported line t (Some kind) slice h = (value_in_place line kind (meaning_of t) t slice h, tt)
 
 attribute_reported : (line : List ℕ) (k : Key) (t : Placed) (name : Option (List ℕ)) → IsSlice line t → AllPresent line (attribute_remarks k t name)
 attribute_reported line k t None slice = tt
@@ -162,7 +156,7 @@ late_slice line (t ∷ tokens) h = by (is_result t) (late_slice line tokens h.1)
     by true more = first_slice line is_program tokens h.1
     by false more = more
 
-order_reported : (line : List ℕ) (t : Option Placed) → MayBeSlice line t → AllPresent line (order_remarks t)
+order_reported : (line : List ℕ) (t : Option Placed) → MayBeSlice line t → AllPresent line (option_to_list (option_map (key_spot ResultBeforeProgram) t))
 order_reported line None h = tt
 order_reported line (Some t) h = (key_in_place line ResultBeforeProgram t h refl, tt)
 
@@ -187,8 +181,11 @@ pairs_reported line tokens (p ∷ pairs) h =
 rule_reported : (accounts : Accounts) (line : List ℕ) (tokens : List Placed) → AllByRecursion (IsSlice line) tokens → AllPresent line (rule_remarks accounts tokens)
 unfolding rule_remarks
 rule_reported accounts line tokens h =
-    both line (flat_map (token_remarks accounts) tokens) (order_remarks (late_program tokens) ++ filter_map (pair_remark tokens) (pair_findings accounts tokens)) (tokens_reported accounts line tokens h)
-    (both line (order_remarks (late_program tokens)) (filter_map (pair_remark tokens) (pair_findings accounts tokens)) (order_reported line (late_program tokens) (late_slice line tokens h)) (pairs_reported line tokens (pair_findings accounts tokens) h))
+    both line (flat_map (token_remarks accounts) tokens) (late ++ filter_map (pair_remark tokens) (pair_findings accounts tokens)) (tokens_reported accounts line tokens h)
+    (both line late (filter_map (pair_remark tokens) (pair_findings accounts tokens)) (order_reported line (late_program tokens) (late_slice line tokens h)) (pairs_reported line tokens (pair_findings accounts tokens) h))
+  where
+    late : List (Spot MessageKind)
+    late = option_to_list (option_map (key_spot ResultBeforeProgram) (late_program tokens))
 
 -- the tokens of a rule are slices of its line
 slices : (line : List ℕ) (items : List Item) (parts : List WrittenPart) → parts_of Udev line items ≡ Ok parts → AllByRecursion (LiesIn line) items → AllByRecursion (IsSlice line) (tokens_in parts)

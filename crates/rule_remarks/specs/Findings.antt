@@ -4,7 +4,7 @@ use Rattle.text_bytes.specs.declared.profile.Profile.{Profile}
 use Rattle.text_bytes.specs.declared.profile.Profile.TheVariants.{Manual, Udev}
 use Rattle.text_bytes.specs.declared.source_file.SourceFile.{SourceFile}
 use Rattle.file_messages.specs.declared.message.MessageKind.{MessageKind}
-use Rattle.rule_pairs.specs.Accounts.{Accounts}
+use Rattle.rule_remarks.specs.Accounts.{Accounts}
 use Rattle.rule_places.specs.Files.{placed_findings}
 use Rattle.rule_places.specs.declared.placed_finding.PlacedFinding.{PlacedFinding}
 use Rattle.rule_remarks.specs.ByLine.{by_line}

@@ -1,3 +1,13 @@
+pub mod AccountTables
+pub mod Accounts
+pub mod Forms
+pub mod Known
+pub mod PairLaws
+pub mod Matters
+pub mod Pairs
+pub mod Relations
+pub mod Said
+pub mod Words
 pub mod Values
 pub mod Attributes
 pub mod Remarks

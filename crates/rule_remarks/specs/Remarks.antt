@@ -1,5 +1,5 @@
 -- What udev reports about the tokens of a rule that stays, with their places in its line.
-use Rattle.std.specs.Prelude.{Bool, true, false, if◌then◌else◌, List, [], ◌∷◌, ◌++◌, flat_map, filter_map, slice_get, Option, Some, None, option_map, codes}
+use Rattle.std.specs.Prelude.{Bool, if◌then◌else◌, List, [], ◌∷◌, ◌++◌, flat_map, filter_map, slice_get, Option, Some, None, option_map, option_to_list, codes}
 use Rattle.std.specs.List.{find}
 use Rattle.text_bytes.specs.Text.{Text}
 use Rattle.file_messages.specs.declared.message.MessageKind.{MessageKind}
@@ -9,9 +9,9 @@ use Rattle.rule_tokens.specs.Grammar.{Placed}
 use Rattle.rule_types.specs.Names.{key_of}
 use Rattle.rule_types.specs.declared.keys.Key.{Key}
 use Rattle.rule_parts.specs.Parts.{meaning_of}
-use Rattle.rule_pairs.specs.Accounts.{Accounts}
-use Rattle.rule_pairs.specs.Pairs.{message_of, pair_findings}
-use Rattle.rule_pairs.specs.declared.pair_finding.PairFinding.{PairFinding}
+use Rattle.rule_remarks.specs.Accounts.{Accounts}
+use Rattle.rule_remarks.specs.Pairs.{message_of, pair_findings}
+use Rattle.rule_remarks.specs.declared.pair_finding.PairFinding.{PairFinding}
 use Rattle.rule_types.specs.Spots.{value_spot}
 use Rattle.rule_core.specs.Spots.{attribute_spot, key_spot}
 use Rattle.rule_types.specs.declared.spot.Spot.{Spot}
@@ -25,19 +25,11 @@ attribute_remarks k t (Some name) =
     (if is_bad_name k name then attribute_spot BadAttributeSubstitution t ∷ [] else [])
     ++ (if is_elsewhere k name then attribute_spot AttributeElsewhere t ∷ [] else [])
 
--- whether what is wrong with a value is reported at the key: that it is empty
-abbrev pub is_of_key : MessageKind → Bool
-is_of_key EmptyValue = true
-is_of_key _ = false
-
--- a token's value, reported with what it means, or its key
-abbrev pub fault_spot : MessageKind → Placed → Spot MessageKind
-fault_spot kind t = if is_of_key kind then key_spot kind t else value_spot kind (meaning_of t) t
-
--- what is reported for the value of a token, if something is wrong with it
+-- what is reported for the value of a token, if something is wrong with it: the value with what it means, or the key if the value is empty
 abbrev pub value_remarks : Option MessageKind → Placed → List (Spot MessageKind)
 value_remarks None t = []
-value_remarks (Some kind) t = fault_spot kind t ∷ []
+value_remarks (Some EmptyValue) t = key_spot EmptyValue t ∷ []
+value_remarks (Some kind) t = value_spot kind (meaning_of t) t ∷ []
 
 -- what is reported for a token, if its key is known
 abbrev pub remarks_by : Accounts → Placed → Option Key → List (Spot MessageKind)
@@ -63,11 +55,6 @@ abbrev pub late_program : List Placed → Option Placed
 late_program [] = None
 late_program (t ∷ tokens) = if is_result t then find is_program tokens else late_program tokens
 
--- what is reported for such a PROGRAM, if there is one
-abbrev pub order_remarks : Option Placed → List (Spot MessageKind)
-order_remarks None = []
-order_remarks (Some t) = key_spot ResultBeforeProgram t ∷ []
-
 -- what is reported for two tokens: the key of the later one
 abbrev pub pair_remark : List Placed → PairFinding → Option (Spot MessageKind)
 pair_remark tokens found = option_map (key_spot (message_of found.kind)) (slice_get tokens found.token)
@@ -77,5 +64,5 @@ pair_remark tokens found = option_map (key_spot (message_of found.kind)) (slice_
 unfoldable pub rule_remarks : Accounts → List Placed → List (Spot MessageKind)
 rule_remarks accounts tokens =
     flat_map (token_remarks accounts) tokens
-    ++ (order_remarks (late_program tokens)
+    ++ (option_to_list (option_map (key_spot ResultBeforeProgram) (late_program tokens))
     ++ filter_map (pair_remark tokens) (pair_findings accounts tokens))

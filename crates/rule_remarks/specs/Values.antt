@@ -5,17 +5,16 @@ use Rattle.text_bytes.specs.Texts.{is_empty}
 use Rattle.file_messages.specs.declared.message.MessageKind.{MessageKind}
 use Rattle.file_messages.specs.declared.message.MessageKind.TheVariants.{BadSubstitution, BadValue, EmptyValue, OldSubsystemName, UnknownAccount}
 use Rattle.text_tables.specs.Texts.{same_text}
-use Rattle.rule_templates.specs.Reading.{is_faulty}
+use Rattle.rule_tokens.specs.TemplateReading.{is_faulty}
 use Rattle.rule_tokens.specs.Grammar.{compares}
 use Rattle.rule_tokens.specs.declared.kinds.Operator.{Operator}
 use Rattle.rule_types.specs.declared.keys.Key.{Key}
 use Rattle.rule_types.specs.declared.keys.Key.TheVariants as key
 use Rattle.rule_parts.specs.Options.{is_known_option}
-use Rattle.rule_pairs.specs.Accounts.{Accounts, given_in}
-use Rattle.rule_pairs.specs.declared.accounts.AccountKind.{AccountKind}
-use Rattle.rule_pairs.specs.declared.accounts.AccountKind.TheVariants.{User, Group}
-use Rattle.rule_pairs.specs.declared.accounts.Given.{Given}
-use Rattle.rule_pairs.specs.declared.accounts.Given.TheVariants as given
+use Rattle.rule_remarks.specs.Accounts.{Accounts, given_in}
+use Rattle.rule_remarks.specs.declared.accounts.AccountKind.TheVariants.{User, Group}
+use Rattle.rule_remarks.specs.declared.accounts.Given.{Given}
+use Rattle.rule_remarks.specs.declared.accounts.Given.TheVariants as given
 
 -- what is wrong with a text in which substitutions may be
 abbrev pub text_fault : Text → Option MessageKind
@@ -25,27 +24,15 @@ text_fault text = if is_faulty text then Some BadSubstitution else None
 abbrev pub filled_fault : Text → Option MessageKind
 filled_fault text = if is_empty text then Some EmptyValue else text_fault text
 
--- what is wrong with the name of a subsystem: `bus` and `class` are old names of `subsystem`
-abbrev pub subsystem_fault : Text → Option MessageKind
-subsystem_fault text = if same_text text (codes "bus") || same_text text (codes "class") then Some OldSubsystemName else None
-
--- what is wrong with an option
-abbrev pub option_fault : Text → Option MessageKind
-option_fault text = if is_known_option text then None else Some BadValue
-
 -- what is wrong with a value of OWNER or GROUP that gives this
 abbrev pub given_fault : Given → Text → Option MessageKind
 given_fault (given.Number n) text = None
 given_fault given.Unknown text = Some UnknownAccount
 given_fault given.Text text = filled_fault text
 
--- what is wrong with a user or a group
-abbrev pub account_fault : Accounts → AccountKind → Text → Option MessageKind
-account_fault accounts kind text = given_fault (given_in accounts kind text) text
-
--- what is wrong with what a key is compared with; substitutions are not looked for in matches
+-- what is wrong with what a key is compared with; substitutions are not looked for in matches, and `bus` and `class` are old names of `subsystem`
 abbrev pub compared_fault : Key → Text → Option MessageKind
-compared_fault key.Subsystem text = subsystem_fault text
+compared_fault key.Subsystem text = if same_text text (codes "bus") || same_text text (codes "class") then Some OldSubsystemName else None
 compared_fault key.Test text = filled_fault text
 compared_fault key.Program text = filled_fault text
 compared_fault key.Import text = filled_fault text
@@ -64,9 +51,9 @@ assigned_fault accounts key.Mode text = filled_fault text
 assigned_fault accounts key.Run text = filled_fault text
 assigned_fault accounts key.Program text = filled_fault text
 assigned_fault accounts key.Import text = filled_fault text
-assigned_fault accounts key.Owner text = account_fault accounts User text
-assigned_fault accounts key.Group text = account_fault accounts Group text
-assigned_fault accounts key.Options text = option_fault text
+assigned_fault accounts key.Owner text = given_fault (given_in accounts User text) text
+assigned_fault accounts key.Group text = given_fault (given_in accounts Group text) text
+assigned_fault accounts key.Options text = if is_known_option text then None else Some BadValue
 assigned_fault accounts _ text = None
 
 -- what is wrong with a value of a key after an operator

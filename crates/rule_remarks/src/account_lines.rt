@@ -1,12 +1,11 @@
 //! The users and groups that files list.
-ghost use Rattle.std.specs.Prelude.{◌≡◌, ◌≤◌, IfOk, length, option_map};
-ghost use Rattle.std.specs.List.{prefix_len};
-ghost use Rattle.text_bytes.specs.Names.{is_whitespace};
-ghost use Rattle.rule_remarks.specs.AccountLines.{account, account_in, accounts_of, field_number, first_field, is_skipped, number_in, bare};
+ghost use Rattle.std.specs.Prelude.{◌≡◌, IfOk, option_map};
+ghost use Rattle.rule_remarks.specs.AccountLines.{account, account_in, accounts_of, bare, field_number, number_in};
 
-use rule_pairs::{Account, AccountKind};
+use crate::accounts::{Account, AccountKind};
+use rule_tokens::leading_whitespace;
 use std::alloc::{AllocError, Global};
-use text_bytes::{Bytes, Lines, begins_with, decimal_below, is_whitespace, split_once};
+use text_bytes::{Bytes, Lines, begins_with, decimal_below, split_once, up_to};
 
 /// A number of 32 bits is below this.
 const NUMBERS: u64 = 1 << 32;
@@ -33,23 +32,17 @@ pub fn read_accounts(
     Ok(accounts)
 }
 
-/// The name and the number of the account of a line without the white space at its start.
+/// The name and the number of the account of a line without the white space at its start. There is none if it
+/// begins with a byte of which no name is looked up.
 fn account_in(kind: AccountKind, line: &[u8]) -> Option<(&[u8], u32)>
     ensures { option_map (λ x. account x.0.now x.1) result ≡ account_in kind line.now }
 {
-    if is_skipped(line) {
+    if begins_with(b'#', line) || begins_with(b'+', line) || begins_with(b'-', line) {
         return None;
     }
     let (name, following) = split_once(b':', line)?;
     let (_, fields) = split_once(b':', following)?;
     Some((name, number_in(kind, fields)?))
-}
-
-/// Whether a line without the white space at its start lists no name that is looked up.
-fn is_skipped(line: &[u8]) -> bool
-    ensures { result ≡ is_skipped line.now }
-{
-    begins_with(b'#', line) || begins_with(b'+', line) || begins_with(b'-', line)
 }
 
 /// The number of an account, by the fields after its password.
@@ -59,24 +52,13 @@ fn number_in(kind: AccountKind, fields: &[u8]) -> Option<u32>
     match kind {
         AccountKind::User => {
             let (number, following) = split_once(b':', fields)?;
-            if field_number(first_field(following)).is_some() {
+            if field_number(up_to(b':', following)).is_some() {
                 field_number(number)
             } else {
                 None
             }
         }
-        AccountKind::Group => field_number(first_field(fields)),
-    }
-}
-
-/// What comes before the first colon of a text, all of it if there is none.
-#[tactic(auto, using(crate::proofs::Fields::field_of_cut))]
-fn first_field(text: &[u8]) -> &[u8]
-    ensures { result.now ≡ first_field text.now }
-{
-    match split_once(b':', text) {
-        None => text,
-        Some((field, _)) => field,
+        AccountKind::Group => field_number(up_to(b':', fields)),
     }
 }
 
@@ -93,14 +75,6 @@ fn field_number(text: &[u8]) -> Option<u32>
 fn bare(text: &[u8]) -> &[u8]
     ensures { result.now ≡ bare text.now }
 {
-    let (_, following) = text.split_at(leading_white_space(text));
+    let (_, following) = text.split_at(leading_whitespace(text));
     following
-}
-
-/// How much white space a text begins with.
-fn leading_white_space(text: &[u8]) -> usize
-    ensures value { result ≡ prefix_len is_whitespace text.now }
-    ensures within { result ≤ length text.now }
-{
-    text.iter().take_while(|byte| is_whitespace(**byte)).count()
 }

@@ -2,10 +2,10 @@
 ghost use Rattle.std.specs.Prelude.{◌≡◌, IfOk};
 ghost use Rattle.rule_remarks.specs.Rules.{line_remarks, remarks_from};
 
+use crate::accounts::Accounts;
 use crate::rule_remarks::rule_remarks;
 use file_messages::MessageKind;
 use rule_core::{Draft, LandedReading, Spot, sum_of};
-use rule_pairs::Accounts;
 use rule_places::{KeptLines, PlacedFinding, place_spots};
 use std::alloc::{AllocError, Global};
 

@@ -7,8 +7,8 @@ ghost use Rattle.text_bytes.specs.declared.source_file.SourceFile as files;
 ghost use Rattle.rule_tokens.specs.Grammar.{Placed};
 ghost use Rattle.rule_core.specs.Drafts.{draft_of};
 ghost use Rattle.rule_core.specs.Lines.{joined_lines};
-ghost use Rattle.rule_pairs.specs.Accounts.{Accounts};
-ghost use Rattle.rule_pairs.specs.declared.accounts.AccountKind.TheVariants.{Group, User};
+ghost use Rattle.rule_remarks.specs.Accounts.{Accounts};
+ghost use Rattle.rule_remarks.specs.declared.accounts.AccountKind.TheVariants.{Group, User};
 ghost use Rattle.rule_places.specs.Files.{placed_findings};
 ghost use Rattle.rule_places.specs.Laws.{IsQuotedThere, IsTextThere};
 ghost use Rattle.file_messages.specs.declared.message.MessageKind.{MessageKind};
@@ -64,7 +64,7 @@ pub fn remarks_are_reported_for_rules()
 {}
 
 /// Nothing is reported for no tokens.
-#[tactic(auto, unfolding(crate::specs::Remarks::rule_remarks, rule_pairs::specs::Pairs::pair_findings))]
+#[tactic(auto, unfolding(crate::specs::Remarks::rule_remarks, crate::specs::Pairs::pair_findings))]
 pub fn no_tokens_have_no_remarks()
     ensures { (accounts : Accounts) → rule_remarks accounts [] ≡ [] }
 {}

@@ -1,10 +1,10 @@
 //! A PROGRAM that follows a RESULT.
 ghost use Rattle.std.specs.Prelude.{◌≡◌, option_map};
 ghost use Rattle.rule_types.specs.Tokens.{tokens_in};
-ghost use Rattle.rule_remarks.specs.Remarks.{is_program, is_result, late_program};
+ghost use Rattle.rule_remarks.specs.Remarks.{late_program};
 
-use rule_core::WrittenPart;
 use rule_tokens::Token;
+use rule_types::WrittenPart;
 
 /// The first PROGRAM that follows a RESULT.
 pub(crate) fn late_program<'t, 'a>(parts: &'t [WrittenPart<'a>]) -> Option<&'t Token<'a>>
@@ -13,24 +13,10 @@ pub(crate) fn late_program<'t, 'a>(parts: &'t [WrittenPart<'a>]) -> Option<&'t T
     let mut asked = false;
     for written in parts {
         let token = &written.token;
-        if asked && is_program(token) {
+        if asked && token.key() == b"PROGRAM".as_slice() {
             return Some(token);
         }
-        asked = asked || is_result(token);
+        asked = asked || token.key() == b"RESULT".as_slice();
     }
     None
-}
-
-/// Whether a token is a RESULT.
-fn is_result(token: &Token<'_>) -> bool
-    ensures { result ≡ is_result token.now }
-{
-    token.key() == b"RESULT".as_slice()
-}
-
-/// Whether a token is a PROGRAM.
-fn is_program(token: &Token<'_>) -> bool
-    ensures { result ≡ is_program token.now }
-{
-    token.key() == b"PROGRAM".as_slice()
 }

@@ -1,14 +1,14 @@
 //! What is reported for one token of a rule that stays.
-ghost use Rattle.std.specs.Prelude.{◌≡◌, ◌++◌, IfOk, OnOk};
+ghost use Rattle.std.specs.Prelude.{◌≡◌, ◌++◌, OnOk};
 ghost use Rattle.rule_parts.specs.Parts.{meaning_of};
-ghost use Rattle.rule_remarks.specs.Remarks.{attribute_remarks, fault_spot, token_remarks, value_remarks};
+ghost use Rattle.rule_remarks.specs.Remarks.{attribute_remarks, token_remarks, value_remarks};
 ghost use Rattle.rule_remarks.specs.Values.{value_fault};
 
+use crate::accounts::Accounts;
 use crate::attributes::{is_bad_name, is_elsewhere};
 use crate::values::value_fault;
 use file_messages::MessageKind;
 use rule_core::{Spot, attribute_spot, key_spot, value_spot};
-use rule_pairs::Accounts;
 use rule_tokens::{Token, unquote};
 use rule_types::{Key, key_of};
 use std::alloc::{AllocError, Global};
@@ -42,22 +42,9 @@ fn add_attribute(
 ) -> Result<(), AllocError>
     ensures { OnOk result (spots.new.items ≡ spots.old.items ++ attribute_remarks key token.now token.now.parts.head.attribute) }
 {
-    match token.attribute() {
-        None => Ok(()),
-        Some(name) => add_name(alloc, spots, key, token, name),
-    }
-}
-
-/// Adds what is reported for the attribute of a token, which is this name.
-fn add_name(
-    alloc: Global,
-    spots: &mut Vec<Spot<MessageKind>>,
-    key: Key,
-    token: &Token<'_>,
-    name: &[u8],
-) -> Result<(), AllocError>
-    ensures { OnOk result (spots.new.items ≡ spots.old.items ++ attribute_remarks key token.now (Some name.now)) }
-{
+    let Some(name) = token.attribute() else {
+        return Ok(());
+    };
     if is_bad_name(key, name) {
         spots.push(attribute_spot(alloc, MessageKind::BadAttributeSubstitution, token)?)?;
     }
@@ -67,7 +54,8 @@ fn add_name(
     Ok(())
 }
 
-/// Adds what is reported for the value of a token with this key, if something is wrong with it.
+/// Adds what is reported for the value of a token with this key, if something is wrong with it: the value with what it
+/// means, or the key if the value is empty.
 fn add_value(
     alloc: Global,
     spots: &mut Vec<Spot<MessageKind>>,
@@ -79,24 +67,12 @@ fn add_value(
         ++ value_remarks (value_fault accounts.now key token.now.parts.head.operator (meaning_of token.now)) token.now) }
 {
     let text = unquote(alloc, token)?;
-    if let Some(kind) = value_fault(accounts, key, token.operator(), &text) {
-        spots.push(fault_spot(alloc, kind, text, token)?)?;
+    match value_fault(accounts, key, token.operator(), &text) {
+        None => {}
+        Some(MessageKind::EmptyValue) => {
+            spots.push(key_spot(alloc, MessageKind::EmptyValue, token)?)?;
+        }
+        Some(kind) => spots.push(value_spot(kind, Bytes::new(text), token))?,
     }
     Ok(())
-}
-
-/// A token's value, reported with what it means; for an empty one the key.
-fn fault_spot(
-    alloc: Global,
-    kind: MessageKind,
-    meaning: Vec<u8>,
-    token: &Token<'_>,
-) -> Result<Spot<MessageKind>, AllocError>
-    requires { meaning.items ≡ meaning_of token.now }
-    ensures { IfOk result (λ spot. spot ≡ fault_spot kind token.now) }
-{
-    match kind {
-        MessageKind::EmptyValue => key_spot(alloc, kind, token),
-        _ => Ok(value_spot(kind, Bytes::new(meaning), token)),
-    }
 }

@@ -1,3 +1,13 @@
+pub mod TemplatePieces
+pub mod TemplateNumbers
+pub mod Closing
+pub mod Spelled
+pub mod Signs
+pub mod FirstPieces
+pub mod Left
+pub mod Digits
+pub mod Examples
+pub mod Bare
 pub mod PlaceLemmas
 pub mod Loops
 pub mod Pieces

@@ -1,3 +1,15 @@
+pub mod Names
+pub mod TemplateReading
+pub mod Template
+pub mod Braces
+pub mod Number
+pub mod TemplateGrammar
+pub mod Faults
+pub mod TemplateFaultTexts
+pub mod Integers
+pub mod Cuts
+pub mod Bare
+pub mod Substituted
 pub mod Letters
 pub mod Reading
 pub mod Places

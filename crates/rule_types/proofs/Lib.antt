@@ -1,2 +1,4 @@
+mod Passing
+mod Counting
 pub mod Octal
 pub mod Equal

@@ -3,7 +3,7 @@ use Rattle.std.specs.Prelude.{not, List, [], ◌∷◌, Option, nat_eq, codes, t
 use Rattle.std.specs.List.{find, prefix_len, starts_with}
 use Rattle.text_bytes.specs.Text.{Text}
 use Rattle.text_bytes.specs.Texts.{skip_while}
-use Rattle.rule_templates.specs.Integers.{is_separator}
+use Rattle.rule_tokens.specs.Integers.{is_separator}
 use Rattle.rule_types.specs.declared.builtins.Builtin.{Builtin}
 use Rattle.rule_types.specs.declared.builtins.Builtin.TheVariants as builtin
 

@@ -1,3 +1,7 @@
+pub mod Passes
+pub mod Jumps
+pub mod Walks
+pub mod Passed
 pub mod Names
 pub mod Written
 pub mod Topics

@@ -1,10 +1,10 @@
 //! The builtins of udev, and which one a text asks for.
 ghost use Rattle.std.specs.Prelude.{◌≡◌, ◌≤◌, IfSome, Some, length, nat_eq, not, true};
 ghost use Rattle.std.specs.List.{prefix_len, starts_with};
-ghost use Rattle.rule_templates.specs.Integers.{is_separator};
+ghost use Rattle.rule_tokens.specs.Integers.{is_separator};
 ghost use Rattle.rule_types.specs.Builtins.{builtin_name, builtin_of, first_word};
 
-use rule_templates::{after_separators, is_separator};
+use rule_tokens::{after_separators, is_separator};
 
 /// A command that is built into udev.
 #[derive(Clone, Copy, PartialEq, Eq)]

@@ -3,7 +3,7 @@
 use crate::roles::{AssignOperator, MatchOperator, PlainKey, Target, UpKey};
 use crate::rule_option::RuleOption;
 use crate::types::RunType;
-use rule_templates::Template;
+use rule_tokens::Template;
 use text_bytes::Bytes;
 use text_core::Choice;
 

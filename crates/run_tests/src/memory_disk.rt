@@ -3,7 +3,7 @@ use crate::runs::line;
 use devdry_files::{
     Disk, DiskFault, DiskNode, MemoryDisk, MemoryEntry, MemoryPlace, ReadFault, read_all, wanted,
 };
-use engine_ends::Verb;
+use engine_sessions::Verb;
 use std::alloc::Global;
 use std::test::Fail;
 use text_bytes::SourceFile;

@@ -2,7 +2,7 @@
 //!
 //! Only the functions of the first part own the devices and what they took: a function that owns none of them, and
 //! only says what a run should give, is quick to check.
-use builtin_knowledge::RootFiles;
+use builtin_devices::RootFiles;
 use engine_core::{Color, Format, Line, MemorySink, MemorySource, Verb, serve};
 use std::alloc::{AllocError, Global};
 use std::test::Fail;

@@ -1,7 +1,7 @@
 //! Sessions that get an input piece by piece, and turns that answer a block with its last byte.
 use crate::runs::{AMPLE, ANSWER, BLOCK, DISK, Given, OF_DISKS, files_of, input_of, output_of};
 use builtin_core::Builtins;
-use builtin_knowledge::RootFiles;
+use builtin_devices::RootFiles;
 use device_core::{BlockFault, BlockFaultKind};
 use engine_core::{MemorySink, MemorySource, Session, SessionFault, Tables, turn};
 use hwdb_core::{PlainDb, read_sources};

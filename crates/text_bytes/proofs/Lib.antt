@@ -1,3 +1,6 @@
+pub mod JoinedWords
+pub mod LinkPlaces
+pub mod ReadingBack
 mod Finding
 pub mod Digits
 pub mod Places

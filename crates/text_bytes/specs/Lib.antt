@@ -1,3 +1,9 @@
+pub mod Safe
+pub mod Characters
+pub mod Underscores
+pub mod Encoded
+pub mod Kernels
+pub mod Steps
 pub mod Text
 pub mod Names
 pub mod Numbers

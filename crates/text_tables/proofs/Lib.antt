@@ -1,3 +1,5 @@
+pub mod Counting
+pub mod Tallying
 pub mod ByName
 pub mod Flags
 pub mod Found

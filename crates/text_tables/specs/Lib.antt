@@ -1,3 +1,5 @@
+pub mod Surplus
+pub mod Tallies
 pub mod Heads
 pub mod NameFlags
 pub mod Pairs

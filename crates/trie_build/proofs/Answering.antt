@@ -8,12 +8,12 @@ use Rattle.std.proofs.lemmas.List.Elements.{All-append, All-cons, All-contains, 
 use Rattle.std.proofs.lemmas.List.Sorted.{Contains-permutation, IsPermutation-sym}
 use Rattle.std.specs.List.{All, Contains, range_with_len}
 use Rattle.text_core.specs.declared.item.Item.{Item}
-use Rattle.hwdb_lookup.specs.Orders.{Rising}
-use Rattle.hwdb_lookup.specs.Query.{winners}
-use Rattle.hwdb_lookup.specs.Winning.{Applies, Counts, IsAnswer}
-use Rattle.hwdb_lookup.specs.declared.entry.Entry.{Entry}
-use Rattle.hwdb_lookup.proofs.Counting.{winners_answer}
-use Rattle.hwdb_lookup.proofs.Unique.{only_winners}
+use Rattle.trie_nodes.specs.Orders.{Rising}
+use Rattle.trie_nodes.specs.Query.{winners}
+use Rattle.trie_nodes.specs.Winning.{Applies, Counts, IsAnswer}
+use Rattle.trie_nodes.specs.declared.entry.Entry.{Entry}
+use Rattle.trie_nodes.proofs.Counting.{winners_answer}
+use Rattle.trie_nodes.proofs.Unique.{only_winners}
 use Rattle.trie_nodes.specs.Tree.{node_at, numbers, path}
 use Rattle.trie_nodes.specs.Values.{entry, listed, value_at, values_of}
 use Rattle.trie_build.specs.Distinct.{IsIn}

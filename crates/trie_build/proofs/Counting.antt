@@ -10,7 +10,7 @@ use Rattle.std.specs.declared.cmp.Ordering.{Ordering}
 use Rattle.std.specs.declared.cmp.Ordering.TheVariants.{Less, Equal}
 use Rattle.text_core.specs.declared.item.Item.{Item}
 use Rattle.text_core.specs.declared.item.Item.TheVariants.{Byte, One, Many, Among}
-use Rattle.hwdb_lookup.specs.declared.entry.Entry.{Entry}
+use Rattle.trie_nodes.specs.declared.entry.Entry.{Entry}
 use Rattle.trie_build.specs.Distinct.{IsDistinctOf, IsIn, Rises}
 use Rattle.trie_build.proofs.TotalOrder.{IsOrder}
 use Rattle.trie_build.specs.Order.{path_cmp}

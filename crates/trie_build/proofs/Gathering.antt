@@ -10,7 +10,7 @@ use Rattle.std.specs.Ordering.{MatchOrdering, is_eq, nat_cmp, ordering_reverse}
 use Rattle.std.specs.declared.cmp.Ordering.{Ordering}
 use Rattle.std.specs.declared.cmp.Ordering.TheVariants.{Less, Equal, Greater}
 use Rattle.text_core.specs.declared.item.Item.{Item}
-use Rattle.hwdb_lookup.specs.declared.entry.Entry.{Entry}
+use Rattle.trie_nodes.specs.declared.entry.Entry.{Entry}
 use Rattle.trie_build.specs.Content.{Content, IsTrie, all_values, entry_at, no_entry, value_of}
 use Rattle.trie_build.specs.Held.{IsHeld, IsValueOf, order_of, own_numbers, pattern_of}
 use Rattle.trie_build.proofs.Answering.{contains_of, number_within, rising_far, value_reported}

@@ -1,9 +1,9 @@
 -- What a trie holds, said of its fields.
 use Rattle.std.proofs.Common.{◌≡◌, ℕ, ◌+◌, ◌<◌, ◌≤◌, ◌^◌, List, length, map, get_or, sym, subst, ap, ◌∙◌, arith}
 use Rattle.std.proofs.lemmas.List.{get_or_default, length-map}
-use Rattle.hwdb_lookup.specs.Bounds.{max_entries}
-use Rattle.hwdb_lookup.specs.Query.{origin, property, query, sourced}
-use Rattle.hwdb_lookup.specs.declared.entry.Entry.{Entry}
+use Rattle.trie_nodes.specs.Bounds.{max_entries}
+use Rattle.trie_nodes.specs.Query.{origin, property, query, sourced}
+use Rattle.trie_nodes.specs.declared.entry.Entry.{Entry}
 use Rattle.trie_nodes.specs.Tree.{node_at, nowhere}
 use Rattle.trie_nodes.specs.Values.{bare, listed, value_at}
 use Rattle.trie_nodes.specs.declared.node.Node.{Node}

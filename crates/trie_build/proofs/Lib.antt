@@ -1,3 +1,26 @@
+mod Written
+pub mod Reading
+pub mod Placement
+pub mod CheckSums
+pub mod Bits
+pub mod Failing
+pub mod Faults
+pub mod Sums
+pub mod LabelLemmas
+pub mod NodeLemmas
+pub mod Fitting
+pub mod Members
+pub mod Rising
+pub mod Permuting
+pub mod Sounding
+pub mod Spelling
+pub mod Texting
+pub mod Imaging
+pub mod NumberLemmas
+pub mod CoreCounting
+pub mod Meeting
+pub mod Placing
+pub mod Composing
 pub mod TotalOrder
 pub mod Distinguishing
 pub mod Counting
@@ -18,4 +41,4 @@ pub mod Gathering
 pub mod Prefixing
 pub mod Words
 pub mod Splitting
-pub mod Places
+pub mod PlaceLemmas

@@ -6,8 +6,8 @@ use Rattle.std.specs.Result.{MatchResult}
 use Rattle.std.specs.List.{All, Contains, range_with_len}
 use Rattle.std.specs.List.Sorted.{IsPermutation}
 use Rattle.text_core.specs.declared.item.Item.{Item}
-use Rattle.hwdb_lookup.specs.Orders.{Rising}
-use Rattle.hwdb_lookup.specs.declared.entry.Entry.{Entry}
+use Rattle.trie_nodes.specs.Orders.{Rising}
+use Rattle.trie_nodes.specs.declared.entry.Entry.{Entry}
 use Rattle.trie_nodes.specs.declared.node.Node.{Node}
 use Rattle.trie_build.specs.Distinct.{IsIn}
 use Rattle.trie_build.specs.Order.{path_cmp}

@@ -6,7 +6,7 @@ use Rattle.std.specs.Ordering.{ordering_reverse, ordering_then, nat_cmp}
 use Rattle.std.specs.Cmp.{IsTotalOrder}
 use Rattle.std.specs.declared.cmp.Ordering.{Ordering}
 use Rattle.std.specs.declared.cmp.Ordering.TheVariants.{Less, Equal, Greater}
-use Rattle.hwdb_lookup.proofs.Keys.{same_key}
+use Rattle.trie_nodes.proofs.Keys.{same_key}
 use Rattle.text_core.specs.declared.item.Item.{Item}
 use Rattle.text_core.specs.declared.item.Item.TheVariants.{Byte, One, Many, Among}
 use Rattle.trie_build.proofs.TotalOrder.{IsOrder}

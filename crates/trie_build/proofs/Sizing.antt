@@ -11,7 +11,7 @@ use Rattle.std.specs.declared.cmp.Ordering.{Ordering}
 use Rattle.std.specs.declared.cmp.Ordering.TheVariants.{Less, Equal, Greater}
 use Rattle.text_core.specs.declared.item.Item.{Item}
 use Rattle.text_core.specs.declared.item.Item.TheVariants.{Byte, One, Many, Among}
-use Rattle.hwdb_lookup.specs.declared.entry.Entry.{Entry}
+use Rattle.trie_nodes.specs.declared.entry.Entry.{Entry}
 use Rattle.std.proofs.Math.Seq.{get_or-append_seam}
 use Rattle.trie_nodes.proofs.Shaped.{path_on, path_root, up}
 use Rattle.trie_nodes.specs.Tree.{Shape, node_at, path}

@@ -21,7 +21,7 @@ use Rattle.std.specs.declared.cmp.Ordering.{Ordering}
 use Rattle.std.specs.declared.cmp.Ordering.TheVariants.{Less, Equal, Greater}
 use Rattle.trie_build.specs.Order.{pattern_cmp}
 use Rattle.trie_build.proofs.Orders.{patterns_order, patterns_total, texts_order}
-use Rattle.hwdb_lookup.specs.declared.entry.Entry.{Entry}
+use Rattle.trie_nodes.specs.declared.entry.Entry.{Entry}
 use Rattle.trie_nodes.proofs.Pieces.{range-append}
 use Rattle.trie_build.specs.Content.{no_entry}
 use Rattle.trie_build.specs.Rows.{IsSorted, Reports, SameRise, numbers, pattern_at, patterns, row_cmp, undetermined}

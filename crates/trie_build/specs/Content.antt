@@ -1,8 +1,8 @@
 -- What a trie holds: its entries, as they were given, and its nodes with their values.
 use Rattle.std.specs.Prelude.{ℕ, ◌≡◌, ◌<◌, List, [], length, map, slice_index_or}
 use Rattle.std.specs.Borrow.{Bor}
-use Rattle.hwdb_lookup.specs.Orders.{Rising}
-use Rattle.hwdb_lookup.specs.declared.entry.Entry.{Entry}
+use Rattle.trie_nodes.specs.Orders.{Rising}
+use Rattle.trie_nodes.specs.declared.entry.Entry.{Entry}
 use Rattle.trie_nodes.specs.Tree.{Shape, path}
 use Rattle.trie_nodes.specs.Values.{Value, values_of}
 use Rattle.trie_nodes.specs.declared.node.Node.{Node}

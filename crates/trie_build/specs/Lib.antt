@@ -1,3 +1,16 @@
+pub mod Kinds
+pub mod Written
+pub mod Numbers
+pub mod Records
+pub mod Header
+pub mod Accepted
+pub mod Framed
+pub mod Contents
+pub mod IndexFaultTexts
+pub mod Image
+pub mod Sound
+pub mod Entries
+pub mod Writing
 pub mod Tree
 pub mod Sizes
 pub mod Distinct

@@ -2,7 +2,7 @@
 use Rattle.std.specs.Prelude.{◌+◌, Bool, ◌&&◌, nat_eq, List, ◌∷◌, [], length, map, filter, flat_map, take}
 use Rattle.std.specs.List.{range_with_len}
 use Rattle.text_core.specs.declared.item.Item.{Item}
-use Rattle.hwdb_lookup.specs.declared.entry.Entry.{Entry}
+use Rattle.trie_nodes.specs.declared.entry.Entry.{Entry}
 use Rattle.trie_build.specs.Distinct.{distinct}
 use Rattle.std.specs.Ordering.{is_eq}
 use Rattle.trie_build.specs.Order.{path_cmp}

@@ -1,7 +1,7 @@
 -- Serves inner proofs only: the length of an index, by the nodes that are made for it.
 use Rattle.std.specs.Prelude.{ℕ, ◌+◌, ◌*◌, List, flat_map, length}
-use Rattle.hwdb_lookup.specs.Bounds.{header_len, node_len, second_version, set_len, value_len}
-use Rattle.hwdb_lookup.specs.declared.entry.Entry.{Entry}
+use Rattle.trie_nodes.specs.Bounds.{header_len, node_len, second_version, set_len, value_len}
+use Rattle.trie_nodes.specs.declared.entry.Entry.{Entry}
 use Rattle.trie_nodes.specs.declared.node.Node.{Node}
 use Rattle.trie_build.specs.Distinct.{distinct}
 use Rattle.trie_build.specs.Sizes.{set_in, text_len}

@@ -4,8 +4,8 @@ use Rattle.text_bytes.specs.Text.{Text}
 use Rattle.text_bytes.specs.Insertion.{text_order}
 use Rattle.text_core.specs.declared.item.Item.{Item}
 use Rattle.text_core.specs.declared.item.Item.TheVariants.{Byte, One, Many, Among}
-use Rattle.hwdb_lookup.specs.Bounds.{header_len, max_entries, max_nodes, node_len, second_version, set_len, value_len}
-use Rattle.hwdb_lookup.specs.declared.entry.Entry.{Entry}
+use Rattle.trie_nodes.specs.Bounds.{header_len, max_entries, max_nodes, node_len, second_version, set_len, value_len}
+use Rattle.trie_nodes.specs.declared.entry.Entry.{Entry}
 use Rattle.trie_build.specs.Distinct.{distinct}
 use Rattle.trie_build.specs.Paths.{paths_of}
 

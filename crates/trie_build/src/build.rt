@@ -3,7 +3,7 @@
 //! The groups of rows are in the order of the nodes. Each is cut once into its children, which are added at the
 //! end: so the nodes are ordered by the length of their paths, and then label by label.
 ghost use Rattle.std.specs.Prelude.{◌≡◌, ◌-◌, ◌<◌, ◌≤◌, All, IfOk, MatchResult, length};
-ghost use Rattle.hwdb_lookup.specs.Bounds.{max_entries, max_nodes};
+ghost use Rattle.trie_nodes.specs.Bounds.{max_entries, max_nodes};
 ghost use Rattle.text_core.specs.declared.item.Item.TheVariants.{One};
 ghost use Rattle.trie_build.specs.Building.{AreNodes};
 ghost use Rattle.trie_build.specs.Groups.{IsGroup, label_at};
@@ -14,10 +14,9 @@ ghost use Rattle.trie_build.specs.Paths.{paths_among};
 use crate::fault::TrieFault;
 use crate::groups::{Group, label_of, longer_from, split};
 use crate::rows::{Row, Sorted};
-use hwdb_lookup::MAX_NODES;
 use std::alloc::Global;
 use text_core::Item;
-use trie_nodes::Node;
+use trie_nodes::{MAX_NODES, Node};
 
 /// The label that leads to a group; for the root, to which none leads, `?`.
 fn last_label(rows: &[Row<'_>], group: Group) -> Item

@@ -1,12 +1,12 @@
 //! The trie of entries that are not too large.
 ghost use Rattle.std.specs.Prelude.{◌≡◌, IfOk};
-ghost use Rattle.hwdb_lookup.specs.Orders.{Rising};
+ghost use Rattle.trie_nodes.specs.Orders.{Rising};
 ghost use Rattle.trie_build.specs.Sizes.{KeepsBounds};
 
 use crate::fault::TrieFault;
 use crate::trie::Trie;
-use hwdb_lookup::Entry;
 use std::alloc::{AllocError, Global};
+use trie_nodes::Entry;
 
 /// The trie of entries that are not too large, as entries read from files are.
 ///

@@ -5,15 +5,15 @@
 ghost use Rattle.std.specs.Prelude.{◌≡◌, ◌-◌, ◌<◌, ◌≤◌, ◌^◌, All, IfOk, OnOk, drop, length, map, slice_index_or, []};
 ghost use Rattle.std.specs.List.{range_with_len};
 ghost use Rattle.std.specs.List.Sorted.{IsPermutation};
-ghost use Rattle.hwdb_lookup.specs.Bounds.{max_entries};
+ghost use Rattle.trie_nodes.specs.Bounds.{max_entries};
 ghost use Rattle.trie_build.specs.Rows.{AreAlike, AreShared, HasPrefix, IsCommon, IsSorted, Reports, SameRise, pattern_at, patterns, row_cmp, undetermined};
 
 use crate::first_labels::{PREFIX, compare_prefixes, prefix_of};
 use crate::order::{compare_from, compare_labels};
-use hwdb_lookup::Entry;
 use std::alloc::{AllocError, Global};
 use std::cmp::Ordering;
 use text_core::PackedPattern;
+use trie_nodes::Entry;
 
 /// The pattern of an entry, with the entry's number.
 #[derive(Clone, Copy)]

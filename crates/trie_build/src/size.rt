@@ -3,17 +3,16 @@
 //! An index gives its places in 32 bits. A trie whose index would be longer is never made, so that writing one
 //! can't fail because of its length.
 ghost use Rattle.std.specs.Prelude.{◌≡◌, ◌+◌, ◌<◌, ◌≤◌, ◌++◌, ◌↔◌, IfOk, IsTrue, MatchOption, OnOk, length, sum_by};
-ghost use Rattle.hwdb_lookup.specs.Bounds.{max_entries};
+ghost use Rattle.trie_nodes.specs.Bounds.{max_entries};
 ghost use Rattle.trie_build.specs.Content.{shown};
 ghost use Rattle.trie_build.specs.Shown.{all_len, index_len_by, node_sets, own_len};
 ghost use Rattle.trie_build.specs.Distinct.{distinct};
 ghost use Rattle.trie_build.specs.Sizes.{max_index_len, names_of, set_in};
 ghost use Rattle.text_bytes.specs.Insertion.{text_order};
 
-use hwdb_lookup::Entry;
 use std::alloc::{AllocError, Global};
 use text_core::Item;
-use trie_nodes::Node;
+use trie_nodes::{Entry, Node};
 
 /// How many bytes an index may have.
 const MAX_INDEX_LEN: u128 = (1 << 32) - 1;

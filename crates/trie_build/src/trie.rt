@@ -3,8 +3,8 @@
 //! The entries stay as they were given. The nodes know their values as a range of the numbers of the
 //! entries, sorted by pattern, so that nothing of an entry is held twice.
 ghost use Rattle.std.specs.Prelude.{◌≡◌, ◌*◌, ◌+◌, ◌<◌, ◌≤◌, IfOk, MatchResult, length};
-ghost use Rattle.hwdb_lookup.specs.Bounds.{max_entries, max_nodes};
-ghost use Rattle.hwdb_lookup.specs.Orders.{Rising};
+ghost use Rattle.trie_nodes.specs.Bounds.{max_entries, max_nodes};
+ghost use Rattle.trie_nodes.specs.Orders.{Rising};
 ghost use Rattle.trie_nodes.specs.Tree.{active_after, count};
 ghost use Rattle.trie_build.specs.Content.{IsTrie, all_values, shown};
 ghost use Rattle.trie_build.specs.Held.{IsHeld};
@@ -16,12 +16,11 @@ use crate::build::nodes_of;
 use crate::fault::TrieFault;
 use crate::rows::{Sorted, numbers_of, shared_prefixes, sorted_rows};
 use crate::size::{index_fits, names_of, sets_of};
-use hwdb_lookup::{Entry, Found, Lookup, MAX_ENTRIES, Sourced};
 use std::alloc::{AllocError, Global};
 use std::marker::Model;
 use std::ops::Range;
 use text_core::Item;
-use trie_nodes::{Database, Node, Nodes};
+use trie_nodes::{Database, Entry, Found, Lookup, MAX_ENTRIES, Node, Nodes, Sourced};
 
 /// A database whose patterns are a trie: the cost of a query is that of the nodes that the modalias reaches.
 #[derive(Drop)]
@@ -35,7 +34,7 @@ pub struct Trie {
 
 impl Model for Trie {
     ghost use Rattle.std.specs.Prelude.{◌≤◌, length};
-    ghost use Rattle.hwdb_lookup.specs.Bounds.{max_entries, max_nodes};
+    ghost use Rattle.trie_nodes.specs.Bounds.{max_entries, max_nodes};
     ghost use Rattle.trie_build.specs.Content.{Content};
     ghost use Rattle.trie_build.specs.Held.{IsHeld};
     ghost use Rattle.trie_build.specs.Sizes.{KeepsBounds};
@@ -89,7 +88,7 @@ fn small_made_from(alloc: Global, entries: &[Entry]) -> Result<Made, TrieFault>
 
 impl Trie {
     /// The trie of entries whose orders strictly rise and whose keys are not empty, which
-    /// [`rising`](hwdb_lookup::rising) checks.
+    /// [`rising`](trie_nodes::rising) checks.
     ///
     /// `TooLarge` means that it would have more than 2^26 nodes, that there are more than 2^24 entries, or that its
     /// index file would have more than 2^32 - 1 bytes; `Memory` means that an allocation failed. The entries are

@@ -4,10 +4,10 @@ use Rattle.std.specs.List.{flat_map, range_with_len}
 use Rattle.std.proofs.lemmas.List.{map-append}
 use Rattle.text_core.specs.declared.item.Item.{Item}
 use Rattle.text_core.specs.Fits.{fits}
-use Rattle.hwdb_lookup.specs.declared.entry.Entry.{Entry}
-use Rattle.hwdb_lookup.specs.Found.{stripped}
-use Rattle.hwdb_lookup.specs.Query.{put, winners}
-use Rattle.hwdb_lookup.proofs.Stripping.{fold_same}
+use Rattle.trie_nodes.specs.declared.entry.Entry.{Entry}
+use Rattle.trie_nodes.specs.Found.{stripped}
+use Rattle.trie_nodes.specs.Query.{put, winners}
+use Rattle.trie_nodes.proofs.Stripping.{fold_same}
 use Rattle.trie_nodes.specs.declared.node.Node.{Node}
 use Rattle.trie_nodes.specs.Tree.{numbers, path, is_active, active_after}
 use Rattle.trie_nodes.specs.Values.{Value, bare, entry, listed, value_at, values_of}

@@ -1,13 +1,14 @@
 //! What the nodes of a database answer for a modalias: only the active nodes are looked at.
 ghost use Rattle.std.specs.Prelude.{◌≡◌, ◌<◌, [], ◌++◌, IfOk, OnOk, flat_map, fold, length, map};
-ghost use Rattle.hwdb_lookup.specs.Found.{found_entries};
-ghost use Rattle.hwdb_lookup.specs.Query.{put, query, shown, shown_origin, sourced};
+ghost use Rattle.trie_nodes.specs.Found.{found_entries};
+ghost use Rattle.trie_nodes.specs.Query.{put, query, shown, shown_origin, sourced};
 ghost use Rattle.trie_nodes.specs.Tree.{active_after};
 ghost use Rattle.trie_nodes.specs.Values.{bare, listed, values_of};
 
+use crate::found::{Found, settle};
+use crate::lookup::Sourced;
 use crate::tree::Database;
 use crate::walk::visits;
-use hwdb_lookup::{Found, Sourced, settle};
 use std::alloc::{AllocError, Global};
 
 /// Adds the values of a node, in order.

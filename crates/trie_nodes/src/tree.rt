@@ -1,12 +1,12 @@
 //! Nodes by number, however they are held.
 ghost use Rattle.std.specs.Prelude.{◌≡◌, ◌+◌, ◌<◌, ◌≤◌, List, length};
-ghost use Rattle.hwdb_lookup.specs.Found.{found_entry};
+ghost use Rattle.trie_nodes.specs.Found.{found_entry};
 ghost use Rattle.trie_nodes.specs.Tree.{Shape, is_star, node_at};
 ghost use Rattle.trie_nodes.specs.Values.{Value, bare, value_at};
 ghost use Rattle.trie_nodes.specs.declared.node.Node.{Node};
 ghost use Rattle.text_core.specs.Items.{takes};
 
-use hwdb_lookup::Found;
+use crate::found::Found;
 use std::ops::Range;
 
 /// A tree of labels, the root being node 0, and the values that its nodes have.

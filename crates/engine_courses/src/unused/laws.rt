@@ -2,10 +2,10 @@
 ghost use Rattle.std.specs.Prelude.{◌≡◌, ◌≤◌, ◌<◌, ℕ, true, false, List, [], ◌∷◌, ◌++◌, codes, count_by, length, map, slice_index_or};
 ghost use Rattle.std.specs.List.{list_any};
 ghost use Rattle.text_bytes.specs.Names.{newline};
-ghost use Rattle.builtin_knowledge.specs.Knowledge.{Known};
+ghost use Rattle.builtin_devices.specs.Knowledge.{Known};
 ghost use Rattle.rule_types.specs.Rules as rules;
 ghost use Rattle.device_core.specs.Values.{EventValue};
-ghost use Rattle.engine_ends.specs.Places.{place_of};
+ghost use Rattle.engine_sessions.specs.Places.{place_of};
 ghost use Rattle.eval_courses.specs.Fates.{keys_of};
 ghost use Rattle.eval_courses.specs.declared.fate.Fate as fate;
 ghost use Rattle.engine_courses.specs.UnusedLaws.{after, ends_at, fates_of, is_reached};

@@ -5,13 +5,12 @@ ghost use Rattle.engine_courses.specs.Unused.{first_place, greatest, is_reported
 ghost use Rattle.engine_courses.specs.Unused.{unmet_text, unused_line};
 
 use crate::unused::rows::Row;
-use engine_ends::push_place;
+use engine_sessions::push_place;
 use eval_courses::rule_keys;
 use itoa::Buffer;
 use rule_types::Rule;
 use std::alloc::{AllocError, Global};
-use text_bytes::{Bytes, FileKind};
-use text_links::last_component;
+use text_bytes::{Bytes, FileKind, last_component};
 use text_tables::is_among;
 
 /// The greatest of counts.

@@ -5,9 +5,8 @@ ghost use Rattle.engine_courses.specs.Rows.{unreached};
 
 use crate::unused::lines::{lines_by, rules_named};
 use crate::unused::rows::{Row, note_all, rows_of};
-use builtin_knowledge::Knowledge;
-use device_core::Event;
-use device_notes::tried;
+use builtin_devices::Knowledge;
+use device_core::{Event, tried};
 use engine_sessions::Tally;
 use eval_courses::fates;
 use rule_types::Rule;

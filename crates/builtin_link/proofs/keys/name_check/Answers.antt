@@ -1,5 +1,5 @@
 use Rattle.std.proofs.Common.{◌≡◌, ◌∙◌, IfOk, List, Some, rules, subst}
-use Rattle.text_links.specs.Kernels.{kernel_name}
+use Rattle.text_bytes.specs.Kernels.{kernel_name}
 use Rattle.text_bytes.specs.Text.{Text}
 use Rattle.builtin_link.specs.Checks.{text_check}
 use Rattle.builtin_link.proofs.keys.name_check.Goals as goal

@@ -5,9 +5,9 @@ use Rattle.std.proofs.lemmas.Result.{IfErr-weaker}
 use Rattle.clap.specs.Words.{App, IsAmong, Kinds, Row, Text, fault_of, is_simple_and_free, subcommand_of, takes}
 use Rattle.clap.specs.declared.error.kind.ErrorKind.{ErrorKind}
 use Rattle.clap.specs.declared.error.kind.ErrorKind.TheVariants as kind
-use Rattle.engine_ends.specs.declared.line.Request.{Request}
-use Rattle.engine_ends.specs.declared.line.LineFault.{LineFault}
-use Rattle.engine_ends.specs.declared.line.LineFault.TheVariants.{Help, Usage, Memory}
+use Rattle.engine_sessions.specs.declared.line.Request.{Request}
+use Rattle.engine_sessions.specs.declared.line.LineFault.{LineFault}
+use Rattle.engine_sessions.specs.declared.line.LineFault.TheVariants.{Help, Usage, Memory}
 use Rattle.file_catalogue.specs.Sections.{explanation}
 use Rattle.devdry_words.specs.Commands.{devdry}
 use Rattle.devdry_words.specs.Answers.{AnswersWords, no_such_code}

@@ -1,7 +1,7 @@
 use Rattle.std.proofs.Common.{◌++◌, ◌∷◌, [], ap, sym, append_assoc, ◌∙◌}
 use Rattle.text_bytes.specs.Names.{newline}
 use Rattle.engine_answers.specs.Inner.{pair_words}
-use Rattle.engine_ends.proofs.Plain.{are_plain}
+use Rattle.engine_sessions.proofs.Plain.{are_plain}
 use Rattle.engine_answers.proofs.Plain.{added_is, plain_pair}
 use Rattle.engine_answers.proofs.lines.push_pair.Goals as goal
 

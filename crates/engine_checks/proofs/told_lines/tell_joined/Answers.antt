@@ -1,6 +1,6 @@
 use Rattle.std.proofs.Common.{◌++◌, List, Option, ℕ, map, ap, ◌∙◌}
 use Rattle.std.specs.List.{zip}
-use Rattle.rule_jumps.specs.Jumps.{landings}
+use Rattle.rule_types.specs.Jumps.{landings}
 use Rattle.rule_core.specs.Lines.{NumberedLine}
 use Rattle.rule_core.specs.Rules.{names_of, reading_of}
 use Rattle.engine_checks.specs.Reported.{Asked}

@@ -1,7 +1,7 @@
 use Rattle.std.proofs.Common.{◌≡◌, ◌+◌, ◌∷◌, [], ◌++◌, ap, arith, decimal, map, string_bytes, ◌∙◌}
 use Rattle.text_bytes.specs.Names.{colon}
-use Rattle.text_tallies.specs.Tallies.{left_of}
-use Rattle.text_tallies.proofs.Tallying.{counts_more, tally_start}
+use Rattle.text_tables.specs.Tallies.{left_of}
+use Rattle.text_tables.proofs.Tallying.{counts_more, tally_start}
 use Rattle.engine_formats.specs.Diagnostics.{shown}
 use Rattle.engine_formats.specs.Fingerprints.{shown_given}
 use Rattle.engine_formats.specs.declared.diagnostic.Diagnostic.{Diagnostic}

@@ -1,5 +1,5 @@
 use Rattle.std.proofs.Common.{◌≡◌, take, map, string_bytes}
-use Rattle.text_tallies.specs.Tallies.{Tallies}
+use Rattle.text_tables.specs.Tallies.{Tallies}
 use Rattle.engine_formats.specs.Diagnostics.{shown}
 use Rattle.engine_formats.specs.Fingerprints.{fingerprinted, shown_given}
 use Rattle.engine_formats.proofs.fingerprints.with_fingerprints_by.Given as goal

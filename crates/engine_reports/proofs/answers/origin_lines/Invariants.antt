@@ -1,5 +1,5 @@
 use Rattle.std.proofs.Common.{◌≡◌, take, map, flat_map}
-use Rattle.hwdb_lookup.specs.Query.{shown_origin}
+use Rattle.trie_nodes.specs.Query.{shown_origin}
 use Rattle.engine_reports.specs.Answers.{origin_line}
 use Rattle.engine_reports.proofs.answers.origin_lines.Given as goal
 

@@ -1,5 +1,5 @@
 use Rattle.std.proofs.Common.{◌≡◌, take, flat_map}
-use Rattle.hwdb_lookup.specs.Query.{shown}
+use Rattle.trie_nodes.specs.Query.{shown}
 use Rattle.engine_reports.specs.Answers.{pair_line}
 use Rattle.engine_reports.proofs.answers.pair_lines.Given as goal
 

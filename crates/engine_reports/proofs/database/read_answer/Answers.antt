@@ -1,6 +1,6 @@
 use Rattle.std.proofs.Common.{◌∙◌, ap, sym}
 use Rattle.std.proofs.lemmas.Result.{err_from_is_err_and}
-use Rattle.hwdb_lookup.specs.Query.{fitting}
+use Rattle.trie_nodes.specs.Query.{fitting}
 use Rattle.hwdb_core.specs.Sources.{entries_of, messages_of}
 use Rattle.engine_reports.specs.Outcomes.{query_outcome}
 use Rattle.engine_reports.proofs.Bounds.{entries_refused, outcome_few}

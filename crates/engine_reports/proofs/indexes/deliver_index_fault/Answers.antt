@@ -1,6 +1,6 @@
 use Rattle.std.proofs.Common.{[], ◌∷◌, codes, ◌∙◌}
 use Rattle.text_bytes.specs.Names.{newline}
-use Rattle.index_reading.specs.FaultTexts.{fault_text}
+use Rattle.trie_build.specs.IndexFaultTexts.{fault_text}
 use Rattle.engine_reports.proofs.Bounds.{in_pieces}
 use Rattle.engine_reports.proofs.indexes.deliver_index_fault.Goals as goal
 

@@ -1,8 +1,8 @@
 use Rattle.std.proofs.Common.{◌≡◌, ◌∙◌, Option, Some, None, Result, Err, inl, inr, ap, sym}
 use Rattle.text_bytes.specs.Text.{Text}
-use Rattle.index_reading.proofs.Faults.{no_fault, one_fault}
-use Rattle.index_reading.specs.declared.fault.IndexFault.{IndexFault}
-use Rattle.index_reading.specs.Contents.{Contents}
+use Rattle.trie_build.proofs.Faults.{no_fault, one_fault}
+use Rattle.trie_build.specs.declared.index_fault.IndexFault.{IndexFault}
+use Rattle.trie_build.specs.Contents.{Contents}
 use Rattle.engine_reports.specs.Indexes.{Opens}
 use Rattle.engine_reports.proofs.law.an_index_opens_to_one_thing.Goals as goal
 

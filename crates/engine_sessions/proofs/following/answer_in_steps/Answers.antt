@@ -1,5 +1,5 @@
 use Rattle.std.proofs.Common.{rules, ◌&&◌, Ok, Err, inr, subst}
-use Rattle.engine_ends.specs.Sinks.{HandsOn}
+use Rattle.engine_sessions.specs.Sinks.{HandsOn}
 use Rattle.engine_sessions.specs.Serves.{EndsWell}
 use Rattle.engine_sessions.proofs.following.answer_in_steps.Goals as goal
 

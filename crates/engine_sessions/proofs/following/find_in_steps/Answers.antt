@@ -1,5 +1,5 @@
 use Rattle.std.proofs.Common.{rules, ◌&&◌, cond, Err, inr, subst, sym}
-use Rattle.engine_ends.specs.Sinks.{HandsOn}
+use Rattle.engine_sessions.specs.Sinks.{HandsOn}
 use Rattle.engine_sessions.specs.Serves.{EndsWell}
 use Rattle.engine_sessions.specs.Sessions.{answer_of, asked_by}
 use Rattle.engine_sessions.proofs.FindingLemmas.{found_after}

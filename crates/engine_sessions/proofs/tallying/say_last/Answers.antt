@@ -1,6 +1,6 @@
 use Rattle.std.proofs.Common.{rules, ◌∙◌, inl, inr, subst}
-use Rattle.engine_ends.specs.Delivery.{ReportsFailure, write_failed}
-use Rattle.engine_ends.specs.Sinks.{BreaksOff}
+use Rattle.engine_sessions.specs.Delivery.{ReportsFailure, write_failed}
+use Rattle.engine_sessions.specs.Sinks.{BreaksOff}
 use Rattle.engine_sessions.proofs.tallying.say_last.Goals as goal
 
 pub returns-in-Ok : goal.returns-in-Ok

@@ -1,5 +1,5 @@
 use Rattle.std.proofs.Common.{rules, ◌&&◌, ◌++◌, [], Ok, Err, append-nil, refl, ap, ◌∙◌, subst, inr}
-use Rattle.engine_ends.specs.Sinks.{HandsOn}
+use Rattle.engine_sessions.specs.Sinks.{HandsOn}
 use Rattle.engine_sessions.specs.Tallies.{SaysLast, events_of}
 use Rattle.engine_sessions.specs.Turns.{joined}
 use Rattle.engine_sessions.proofs.tallying.tally_heard.Goals as goal

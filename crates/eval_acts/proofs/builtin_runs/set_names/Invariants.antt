@@ -1,5 +1,5 @@
 use Rattle.std.proofs.Common.{◌≡◌, length}
-use Rattle.hwdb_lookup.specs.Query.{shown}
+use Rattle.trie_nodes.specs.Query.{shown}
 use Rattle.eval_state.specs.Properties.{properties_set}
 use Rattle.eval_acts.specs.BuiltinRuns.{with_maker}
 use Rattle.eval_acts.proofs.builtin_runs.set_names.Given as goal

@@ -1,6 +1,6 @@
 use Rattle.std.proofs.Common.{◌≡◌, drop}
 use Rattle.eval_state.specs.Properties.{properties_set}
-use Rattle.hwdb_lookup.specs.Query.{shown}
+use Rattle.trie_nodes.specs.Query.{shown}
 use Rattle.eval_acts.proofs.imports.set_as_udev.Given as goal
 
 abbrev pub invariant-loop-name : goal.invariant-loop-name

@@ -1,6 +1,6 @@
 use Rattle.std.proofs.Common.{◌-◌, [], ◌∷◌, ◌++◌, map, filter, ap, sym, ◌∙◌}
 use Rattle.std.specs.List.{list_any}
-use Rattle.eval_matching.specs.Subjects.{holds_at}
+use Rattle.eval_rendering.specs.Subjects.{holds_at}
 use Rattle.eval_courses.specs.Upward.{falling, partial_report}
 use Rattle.eval_courses.proofs.Finding.{one_reported}
 use Rattle.eval_courses.proofs.upward.partial_reports.Goals as goal

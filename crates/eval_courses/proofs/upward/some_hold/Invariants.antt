@@ -1,6 +1,6 @@
 use Rattle.std.proofs.Common.{◌≡◌, drop}
 use Rattle.std.specs.List.{list_any}
-use Rattle.eval_matching.specs.Subjects.{holds_at}
+use Rattle.eval_rendering.specs.Subjects.{holds_at}
 use Rattle.eval_courses.proofs.upward.some_hold.Given as goal
 
 abbrev pub invariant-loop-part : goal.invariant-loop-part

@@ -1,8 +1,8 @@
 use Rattle.std.proofs.Common.{◌≡◌, true, List, [], ◌∷◌, Option, filter, refl, ap, ◌∙◌}
 use Rattle.text_tables.specs.Pairs.{Pair}
 use Rattle.text_core.specs.declared.item.Item.{Item}
-use Rattle.hwdb_lookup.specs.Query.{query}
-use Rattle.eval_lookups.specs.LookUps.{counts}
+use Rattle.trie_nodes.specs.Query.{query}
+use Rattle.eval_commands.specs.LookUps.{counts}
 use Rattle.eval_laws.proofs.lookups.properties_that_the_filter_takes_count.Goals as goal
 
 -- a list of which all are kept

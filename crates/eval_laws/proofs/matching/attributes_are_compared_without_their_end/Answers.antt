@@ -6,9 +6,9 @@ use Rattle.text_tables.specs.Pairs.{value_of}
 use Rattle.device_core.specs.Values.{DeviceValue}
 use Rattle.eval_state.specs.declared.state.State.{State}
 use Rattle.eval_laws.specs.Comparing.{ComparesWithoutItsEnd}
-use Rattle.eval_matching.specs.Attributes.{attribute_by, value_by}
-use Rattle.eval_matching.specs.Holding.{attribute}
-use Rattle.eval_matching.specs.Subjects.{tried}
+use Rattle.eval_rendering.specs.Attributes.{attribute_by, value_by}
+use Rattle.eval_rendering.specs.Holding.{attribute}
+use Rattle.eval_rendering.specs.Subjects.{tried}
 use Rattle.eval_laws.proofs.Compared.{attribute_cut}
 use Rattle.eval_laws.proofs.matching.attributes_are_compared_without_their_end.Goals as goal
 

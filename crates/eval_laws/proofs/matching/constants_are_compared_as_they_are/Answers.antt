@@ -1,6 +1,6 @@
 use Rattle.std.proofs.Common.{cond, ap, ◌∙◌}
 use Rattle.text_tables.specs.Pairs.{value_of}
-use Rattle.eval_matching.specs.Holding.{constant, holds, never}
+use Rattle.eval_rendering.specs.Holding.{constant, holds, never}
 use Rattle.eval_laws.proofs.matching.constants_are_compared_as_they_are.Goals as goal
 
 pub returns : goal.returns

@@ -1,8 +1,8 @@
 use Rattle.std.proofs.Common.{length}
 use Rattle.std.specs.List.{list_all}
 use Rattle.device_core.specs.Values.{chain}
-use Rattle.eval_matching.specs.Subjects.{found_place, holds_at}
-use Rattle.eval_matching.proofs.Finding.{found_first}
+use Rattle.eval_rendering.specs.Subjects.{found_place, holds_at}
+use Rattle.eval_rendering.proofs.Finding.{found_first}
 use Rattle.eval_laws.proofs.matching.one_device_meets_all_matches.Goals as goal
 
 pub returns : goal.returns

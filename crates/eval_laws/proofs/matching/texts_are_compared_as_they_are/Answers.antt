@@ -12,8 +12,8 @@ use Rattle.eval_state.specs.Chains.{device_at, kernel_of}
 use Rattle.eval_state.specs.Texts.{or_empty}
 use Rattle.eval_state.specs.declared.state.State.{State}
 use Rattle.eval_laws.specs.Comparing.{ComparesAsItIs, device_texts, event_texts}
-use Rattle.eval_matching.specs.Holding.{one}
-use Rattle.eval_matching.specs.Subjects.{is_known, members_by, plain_subject, subsystem_by, tags_at, up_subject}
+use Rattle.eval_rendering.specs.Holding.{one}
+use Rattle.eval_rendering.specs.Subjects.{is_known, members_by, plain_subject, subsystem_by, tags_at, up_subject}
 use Rattle.eval_laws.proofs.Compared.{constant_in_place, members_in_place, one_in_place, unread_in_place}
 use Rattle.eval_laws.proofs.matching.texts_are_compared_as_they_are.Goals as goal
 

@@ -11,9 +11,9 @@ use Rattle.device_core.specs.Values.{DeviceValue}
 use Rattle.eval_state.specs.Chains.{device_at}
 use Rattle.eval_state.specs.Texts.{or_empty}
 use Rattle.eval_state.specs.declared.state.State.{State}
-use Rattle.eval_matching.specs.Attributes.{attribute_by, own_attribute, value_by}
-use Rattle.eval_matching.specs.Holding.{constant, holds, never}
-use Rattle.eval_matching.specs.Subjects.{is_known, members_by, plain_subject, subsystem_by, tags_at, tried, up_subject}
+use Rattle.eval_rendering.specs.Attributes.{attribute_by, own_attribute, value_by}
+use Rattle.eval_rendering.specs.Holding.{constant, holds, never}
+use Rattle.eval_rendering.specs.Subjects.{is_known, members_by, plain_subject, subsystem_by, tags_at, tried, up_subject}
 use Rattle.eval_laws.specs.Comparing.{AreOpposite}
 use Rattle.eval_laws.proofs.Compared.{attribute_opposite, constant_opposite, members_opposite, never_both, one_opposite, unread_opposite}
 use Rattle.eval_laws.proofs.matching.unequal_holds_just_where_equal_does_not.Goals as goal

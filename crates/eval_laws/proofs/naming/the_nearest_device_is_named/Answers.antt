@@ -6,7 +6,7 @@ use Rattle.device_core.specs.Values.{DeviceValue, chain}
 use Rattle.eval_state.specs.Chains.{device_at, kernel_of}
 use Rattle.eval_state.specs.Named.{NamedValue, is_named, is_subsystem, named_place}
 use Rattle.eval_state.specs.Texts.{or_empty}
-use Rattle.eval_matching.proofs.Finding.{found_first, none_found}
+use Rattle.eval_rendering.proofs.Finding.{found_first, none_found}
 use Rattle.eval_laws.proofs.naming.the_nearest_device_is_named.Goals as goal
 
 -- a device is the one that is named by both names

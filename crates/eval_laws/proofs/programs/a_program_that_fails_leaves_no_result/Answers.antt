@@ -1,5 +1,5 @@
 use Rattle.std.proofs.Common.{ap}
-use Rattle.eval_laws.proofs.Asking.{answered, failed, holds}
+use Rattle.eval_laws.proofs.AskingLemmas.{answered, failed, holds}
 use Rattle.eval_laws.proofs.programs.a_program_that_fails_leaves_no_result.Goals as goal
 
 pub returns-clause-holds : goal.returns-clause-holds

@@ -3,7 +3,7 @@ use Rattle.text_bytes.specs.Texts.{trimmed}
 use Rattle.text_bytes.specs.declared.profile.Profile.{Profile}
 use Rattle.text_bytes.specs.Text.{Text}
 use Rattle.device_core.specs.Values.{DeviceValue, NumberValue}
-use Rattle.text_links.specs.Safe.{attribute_marks, safe}
+use Rattle.text_bytes.specs.Safe.{attribute_marks, safe}
 use Rattle.eval_state.specs.Chains.{device_at, kernel_of}
 use Rattle.eval_state.specs.Texts.{or_empty}
 use Rattle.eval_state.specs.declared.state.State.{State}

@@ -1,5 +1,5 @@
 use Rattle.std.proofs.Common.{None, Some, ap, ◌∙◌}
-use Rattle.builtin_knowledge.specs.declared.root_files.RootFile.TheVariants.{Read}
+use Rattle.builtin_devices.specs.declared.root_files.RootFile.TheVariants.{Read}
 use Rattle.eval_acts.specs.Acts.{tried}
 use Rattle.eval_laws.proofs.FileImports.{as_found, by_manual, read_long}
 use Rattle.eval_laws.proofs.root_files.a_file_that_was_not_read_is_noted.Goals as goal

@@ -1,5 +1,5 @@
 use Rattle.std.proofs.Common.{Some, ap, ◌∙◌}
-use Rattle.builtin_knowledge.specs.declared.root_files.RootFile.TheVariants.{Absent, Read}
+use Rattle.builtin_devices.specs.declared.root_files.RootFile.TheVariants.{Absent, Read}
 use Rattle.eval_acts.specs.Acts.{tried}
 use Rattle.eval_laws.proofs.FileImports.{as_found, read_set}
 use Rattle.eval_laws.proofs.root_files.what_a_file_gives_is_set.Goals as goal

@@ -1,4 +1,4 @@
-use Rattle.text_links.proofs.Places.{length-safe}
+use Rattle.text_bytes.proofs.LinkPlaces.{length-safe}
 use Rattle.eval_laws.proofs.SafeBytes.{bytes_made_safe}
 use Rattle.eval_laws.proofs.safe_texts.other_bytes_are_replaced.Goals as goal
 

@@ -1,5 +1,5 @@
 use Rattle.std.proofs.Common.{refl}
-use Rattle.text_links.specs.Safe.{attribute_marks, link_marks, safe}
+use Rattle.text_bytes.specs.Safe.{attribute_marks, link_marks, safe}
 use Rattle.eval_laws.proofs.SafeBytes.{is_safe-same, safe-is_safe, same-is_safe}
 use Rattle.eval_laws.proofs.safe_texts.safe_bytes_stay.Goals as goal
 

@@ -1,5 +1,5 @@
 use Rattle.std.proofs.Common.{refl}
-use Rattle.text_links.specs.Safe.{attribute_marks, link_marks}
+use Rattle.text_bytes.specs.Safe.{attribute_marks, link_marks}
 use Rattle.eval_laws.proofs.SafeBytes.{safe-is_safe}
 use Rattle.eval_laws.proofs.safe_texts.safe_texts_are_safe.Goals as goal
 

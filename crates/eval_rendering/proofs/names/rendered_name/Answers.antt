@@ -1,5 +1,5 @@
 use Rattle.std.proofs.Common.{[], sym, ap, ◌∙◌}
-use Rattle.rule_templates.specs.Cuts.{copied}
+use Rattle.rule_tokens.specs.Cuts.{copied}
 use Rattle.eval_rendering.specs.Lengthened.{lengthened}
 use Rattle.eval_rendering.specs.Names.{name_piece}
 use Rattle.eval_rendering.proofs.Naming.{lengthened_nothing, name_ends, name_proceeds, name_stops}

@@ -1,7 +1,7 @@
 use Rattle.std.proofs.Common.{◌++◌, ◌∷◌, ◌∙◌, true, false, flat_map, map, ap}
 use Rattle.text_bytes.specs.Names.{space}
 use Rattle.text_bytes.specs.Texts.{is_empty}
-use Rattle.text_links.specs.Steps.{added}
+use Rattle.text_bytes.specs.Steps.{added}
 use Rattle.eval_rendering.proofs.Joining.{others_seen}
 use Rattle.eval_rendering.proofs.SpacedWords.{spaced_first}
 use Rattle.eval_rendering.proofs.spaced_words.spaced_word.Goals as goal

@@ -1,7 +1,7 @@
 use Rattle.std.proofs.Common.{◌≡◌, ◌∷◌, drop, flat_map, map}
 use Rattle.text_bytes.specs.Names.{space}
-use Rattle.text_links.specs.Steps.{grown}
-use Rattle.text_links.specs.Underscores.{underscored}
+use Rattle.text_bytes.specs.Steps.{grown}
+use Rattle.text_bytes.specs.Underscores.{underscored}
 use Rattle.eval_rendering.specs.Words.{spaced}
 use Rattle.eval_rendering.proofs.spaced_words.spaced_word.Given as goal
 

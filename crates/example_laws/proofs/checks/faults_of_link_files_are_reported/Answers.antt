@@ -1,7 +1,7 @@
 use Rattle.std.proofs.Common.{◌∷◌, [], codes, refl}
 use Rattle.text_bytes.specs.declared.source_file.FileKind.TheVariants.{Rules}
 use Rattle.link_files.specs.Examples.{at}
-use Rattle.engine_ends.specs.declared.line.Format.TheVariants.{Gcc}
+use Rattle.engine_sessions.specs.declared.line.Format.TheVariants.{Gcc}
 use Rattle.example_laws.specs.Answered.{text}
 use Rattle.example_laws.specs.Checked.{not_linting, said}
 use Rattle.example_laws.proofs.Checking.{checked_links}

@@ -1,5 +1,5 @@
 use Rattle.std.proofs.Common.{false, ◌∷◌, [], codes, refl}
-use Rattle.engine_ends.specs.declared.line.Format.TheVariants.{Plain}
+use Rattle.engine_sessions.specs.declared.line.Format.TheVariants.{Plain}
 use Rattle.example_laws.specs.Answered.{text}
 use Rattle.example_laws.specs.Checked.{not_linting, said}
 use Rattle.example_laws.proofs.Checking.{checked, checked_database}

@@ -1,6 +1,6 @@
 use Rattle.std.proofs.Common.{◌∷◌, [], codes, refl}
 use Rattle.text_bytes.specs.declared.profile.Profile.TheVariants.{Manual}
-use Rattle.engine_ends.specs.declared.line.Format.TheVariants.{Gcc, Plain}
+use Rattle.engine_sessions.specs.declared.line.Format.TheVariants.{Gcc, Plain}
 use Rattle.example_laws.specs.Checked.{linting, not_linting, said}
 use Rattle.example_laws.proofs.Checking.{checked}
 use Rattle.example_laws.proofs.Computing.{computed}

@@ -1,6 +1,6 @@
 use Rattle.std.proofs.Common.{◌∷◌, [], codes, refl}
 use Rattle.text_bytes.specs.declared.profile.Profile.TheVariants.{Manual}
-use Rattle.engine_ends.specs.declared.line.Format.TheVariants.{Gcc}
+use Rattle.engine_sessions.specs.declared.line.Format.TheVariants.{Gcc}
 use Rattle.example_laws.specs.Answered.{text}
 use Rattle.example_laws.specs.Checked.{linting, said}
 use Rattle.example_laws.proofs.Checking.{checked}

@@ -1,6 +1,6 @@
 use Rattle.std.proofs.Common.{◌≡◌, ◌+◌, length, take}
 use Rattle.std.specs.List.{sum_by}
-use Rattle.hwdb_lookup.specs.Bounds.{max_name_bytes}
+use Rattle.trie_nodes.specs.Bounds.{max_name_bytes}
 use Rattle.hwdb_core.proofs.database.names_fit.Given as goal
 
 abbrev pub invariant-loop-file : goal.invariant-loop-file

@@ -2,7 +2,7 @@ use Rattle.std.proofs.Common.{◌≡◌, true, ◌∙◌, sym, ap, subst}
 use Rattle.std.proofs.lemmas.Result.{err_from_is_err_and}
 use Rattle.hwdb_core.specs.Found.{Held, found_in, onto}
 use Rattle.hwdb_core.specs.Parts.{file_found}
-use Rattle.hwdb_lookup.specs.Orders.{Rising}
+use Rattle.trie_nodes.specs.Orders.{Rising}
 use Rattle.hwdb_core.proofs.Bounds.{within_few}
 use Rattle.hwdb_core.proofs.Orders.{rising_counting}
 use Rattle.hwdb_core.proofs.Totals.{beyond_at, read_entries, read_messages, within}

@@ -1,6 +1,6 @@
 use Rattle.std.proofs.Common.{append_assoc}
-use Rattle.lsp_diagnostics.specs.Begun.{action_begins}
-use Rattle.lsp_diagnostics.specs.Fixes.{action}
+use Rattle.lsp_answers.specs.Begun.{action_begins}
+use Rattle.lsp_answers.specs.Fixes.{action}
 use Rattle.lsp_answers.proofs.actions.write_style_action.Goals as goal
 
 pub returns-in_ok-end_action-in-Some-clause-tokens : goal.returns-in_ok-end_action-in-Some-clause-tokens

@@ -6,8 +6,8 @@ use Rattle.text_bytes.specs.declared.source_file.FileKind.{FileKind}
 use Rattle.text_bytes.specs.declared.source_file.FileKind.TheVariants.{Hwdb, Rules}
 use Rattle.text_bytes.specs.Text.{Text}
 use Rattle.text_tables.specs.Texts.{same_text}
-use Rattle.rule_format.specs.Mended.{mended}
-use Rattle.lsp_diagnostics.specs.Documents.{kind_of}
+use Rattle.rule_places.specs.Mended.{mended}
+use Rattle.lsp_answers.specs.Documents.{kind_of}
 use Rattle.lsp_answers.specs.Edits.{changes, mended_as}
 use Rattle.lsp_answers.proofs.laws.mended_texts_are_others.Goals as goal
 

@@ -3,8 +3,8 @@ use Rattle.text_tables.specs.Pairs.{value_of}
 use Rattle.text_bytes.specs.Text.{Text}
 use Rattle.json.specs.Json.{Json}
 use Rattle.lsp_messages.specs.Parameters.{RangedValue}
-use Rattle.lsp_texts.specs.declared.documents.Document.{Document}
-use Rattle.lsp_texts.specs.declared.documents.Document.TheVariants.{InStep, OutOfStep}
+use Rattle.lsp_messages.specs.declared.documents.Document.{Document}
+use Rattle.lsp_messages.specs.declared.documents.Document.TheVariants.{InStep, OutOfStep}
 use Rattle.lsp_answers.specs.Queries.{QueryValue, method_of, query_about, query_by, query_in, query_with, range_asked}
 use Rattle.lsp_answers.specs.declared.queries.Method.{Method}
 use Rattle.lsp_answers.proofs.laws.queries_are_about_open_documents.Goals as goal

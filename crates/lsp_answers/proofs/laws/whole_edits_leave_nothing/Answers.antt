@@ -4,13 +4,13 @@ use Rattle.std.proofs.lemmas.Str.{IsCharBoundary-start}
 use Rattle.std.specs.List.{prefix_len}
 use Rattle.std.specs.Str.{IsCharBoundary}
 use Rattle.text_bytes.specs.Text.{Text}
-use Rattle.lsp_texts.proofs.Landing.{comes_back}
-use Rattle.lsp_texts.specs.Changes.{replaced}
-use Rattle.lsp_texts.specs.Places.{IsPlace}
-use Rattle.lsp_texts.specs.Rows.{is_inside, offset_of, position_of, row_at}
-use Rattle.lsp_texts.specs.Units.{fitting, is_within, width}
-use Rattle.lsp_texts.specs.declared.counting.Encoding.{Encoding}
-use Rattle.lsp_texts.specs.declared.counting.Encoding.TheVariants.{Utf8, Utf16}
+use Rattle.lsp_messages.proofs.Landing.{comes_back}
+use Rattle.lsp_messages.specs.TextChanges.{replaced}
+use Rattle.lsp_messages.specs.Places.{IsPlace}
+use Rattle.lsp_messages.specs.Rows.{is_inside, offset_of, position_of, row_at}
+use Rattle.lsp_messages.specs.Units.{fitting, is_within, width}
+use Rattle.lsp_messages.specs.declared.counting.Encoding.{Encoding}
+use Rattle.lsp_messages.specs.declared.counting.Encoding.TheVariants.{Utf8, Utf16}
 use Rattle.lsp_answers.specs.Queries.{origin}
 use Rattle.lsp_answers.proofs.laws.whole_edits_leave_nothing.Goals as goal
 

@@ -5,7 +5,7 @@ use Rattle.json.specs.Token as token
 use Rattle.json.specs.Token.{Token}
 use Rattle.json.specs.Tree.{json_tokens}
 use Rattle.text_json.specs.Values.{array_of}
-use Rattle.lsp_texts.specs.declared.counting.Encoding.{Encoding}
+use Rattle.lsp_messages.specs.declared.counting.Encoding.{Encoding}
 use Rattle.lsp_words.specs.Completions.{Offer, completions_at}
 use Rattle.lsp_answers.specs.Offers.{completion, offered_names}
 use Rattle.lsp_answers.specs.Spots.{Spot}

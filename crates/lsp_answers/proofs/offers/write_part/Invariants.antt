@@ -1,7 +1,7 @@
 use Rattle.std.proofs.Common.{◌≡◌, ◌++◌, map, take}
 use Rattle.text_json.specs.Listed.{value_tokens}
 use Rattle.lsp_words.specs.Entries.{row_of}
-use Rattle.lsp_words.specs.Offered.{offered}
+use Rattle.lsp_words.specs.Completions.{offered}
 use Rattle.lsp_answers.specs.Offers.{offered_name}
 use Rattle.lsp_answers.proofs.offers.write_part.Given as goal
 

@@ -1,5 +1,5 @@
 use Rattle.json.proofs.Numbered.{HasNumbers-get}
 use Rattle.lsp_messages.proofs.message.called.Goals as goal
 
-pub returns-then-is_id-clause-numbers : goal.returns-then-is_id-clause-numbers
-returns-then-is_id-clause-numbers c h = HasNumbers-get _ _ _ h c.in-Some.ensures
+pub returns-in-Number-clause-numbers : goal.returns-in-Number-clause-numbers
+returns-in-Number-clause-numbers c h = HasNumbers-get _ _ _ h c.in-Some.ensures

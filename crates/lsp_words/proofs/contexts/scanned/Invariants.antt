@@ -1,6 +1,6 @@
 use Rattle.std.proofs.Common.{◌≡◌, ◌≤◌, take}
 use Rattle.lsp_words.specs.Contexts.{context_of}
-use Rattle.lsp_words.specs.Scans.{seen}
+use Rattle.lsp_words.specs.Contexts.{seen}
 use Rattle.lsp_words.proofs.contexts.scanned.Given as goal
 
 -- the bytes so far are read

@@ -1,7 +1,7 @@
 use Rattle.std.proofs.Common.{rules, ◌≡◌}
 use Rattle.std.specs.Prelude.{option_map}
 use Rattle.lsp_words.specs.Meanings.{meaning_in}
-use Rattle.lsp_words.specs.Shown.{shown}
+use Rattle.lsp_words.specs.Meanings.{shown}
 use Rattle.lsp_words.proofs.Standing.{entry_of}
 use Rattle.lsp_words.proofs.meanings.meaning_in.Goals as goal
 

@@ -1,7 +1,7 @@
 use Rattle.std.proofs.Common.{◌≡◌, List, ◌∙◌, ap, map, sum_by, arith}
 use Rattle.std.specs.List.{count_by}
-use Rattle.rule_jumps.specs.Jumps.{landings}
-use Rattle.rule_jumps.specs.declared.jumps.Landing.{Landing}
+use Rattle.rule_types.specs.Jumps.{landings}
+use Rattle.rule_types.specs.declared.jumps.Landing.{Landing}
 use Rattle.rule_core.specs.Counts.{line_tokens}
 use Rattle.rule_core.specs.Drafts.{draft_of}
 use Rattle.rule_core.specs.Notes.{Outlines, nowhere}

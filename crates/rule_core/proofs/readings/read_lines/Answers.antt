@@ -1,6 +1,6 @@
 use Rattle.std.proofs.Common.{List, ◌∙◌, ap, map}
-use Rattle.rule_jumps.specs.Jumps.{landings}
-use Rattle.rule_jumps.specs.declared.jumps.Landing.{Landing}
+use Rattle.rule_types.specs.Jumps.{landings}
+use Rattle.rule_types.specs.declared.jumps.Landing.{Landing}
 use Rattle.rule_core.specs.Rules.{Reading, names_of, reading_of}
 use Rattle.rule_core.proofs.Noting.{lines_relanded}
 use Rattle.rule_core.proofs.readings.read_lines.Goals as goal

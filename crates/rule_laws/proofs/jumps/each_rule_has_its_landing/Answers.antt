@@ -1,6 +1,6 @@
 use Rattle.std.proofs.Common.{List, sym, subst}
 use Rattle.rule_laws.specs.Landings.{AreLandings}
-use Rattle.rule_jumps.specs.declared.jumps.Landing.{Landing}
+use Rattle.rule_types.specs.declared.jumps.Landing.{Landing}
 use Rattle.rule_laws.proofs.Placed.{are_landings, only_landings}
 use Rattle.rule_laws.proofs.jumps.each_rule_has_its_landing.Goals as goal
 

@@ -1,5 +1,5 @@
 use Rattle.std.proofs.Common.{◌≡◌, ◌++◌, List}
-use Rattle.rule_jumps.specs.declared.jumps.Landing.{Landing}
+use Rattle.rule_types.specs.declared.jumps.Landing.{Landing}
 use Rattle.rule_core.specs.Rules.{Reading}
 use Rattle.rule_places.specs.Files.{placed_from}
 use Rattle.rule_places.proofs.file_findings.place_lines.Given as goal

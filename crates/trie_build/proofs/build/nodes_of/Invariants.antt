@@ -1,5 +1,5 @@
 use Rattle.std.proofs.Common.{◌-◌, ◌≤◌, length}
-use Rattle.hwdb_lookup.specs.Bounds.{max_nodes}
+use Rattle.trie_nodes.specs.Bounds.{max_nodes}
 use Rattle.trie_build.specs.Rows.{patterns}
 use Rattle.trie_build.proofs.Building.{IsBuilt}
 use Rattle.trie_build.proofs.build.nodes_of.Given as goal

@@ -1,5 +1,5 @@
 use Rattle.std.proofs.Common.{◌∙◌, arith, sym}
-use Rattle.trie_build.proofs.Places.{longer, shorter}
+use Rattle.trie_build.proofs.PlaceLemmas.{longer, shorter}
 use Rattle.trie_build.proofs.order.compare_from.Goals as goal
 
 pub returns-then-next-len : goal.returns-then-next-len

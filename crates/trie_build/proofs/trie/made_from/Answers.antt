@@ -6,7 +6,7 @@ use Rattle.std.proofs.lemmas.List.FromFn.{length-range_with_len}
 use Rattle.std.proofs.lemmas.List.Sorted.{length_permutation}
 use Rattle.trie_build.specs.Paths.{paths_among, paths_of}
 use Rattle.trie_build.specs.Building.{AreNodes}
-use Rattle.hwdb_lookup.specs.Bounds.{max_nodes}
+use Rattle.trie_nodes.specs.Bounds.{max_nodes}
 use Rattle.trie_build.specs.Rows.{AreShared, patterns}
 use Rattle.trie_build.specs.declared.rows.Row.{Row}
 use Rattle.trie_build.proofs.MadeNodes.{made, paths_are, refused}

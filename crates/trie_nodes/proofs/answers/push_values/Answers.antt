@@ -1,6 +1,6 @@
 use Rattle.std.proofs.Common.{◌∷◌, [], ◌∙◌, ap}
 use Rattle.std.proofs.lemmas.List.{map-append}
-use Rattle.hwdb_lookup.specs.Found.{found_entries, found_entry}
+use Rattle.trie_nodes.specs.Found.{found_entries, found_entry}
 use Rattle.trie_nodes.proofs.Listing.{push_next}
 use Rattle.trie_nodes.proofs.answers.push_values.Goals as goal
 

@@ -1,6 +1,6 @@
 use Rattle.std.proofs.Common.{◌≡◌, ◌-◌, ◌++◌, map}
 use Rattle.std.specs.List.{range_with_len}
-use Rattle.hwdb_lookup.specs.Found.{found_entries}
+use Rattle.trie_nodes.specs.Found.{found_entries}
 use Rattle.trie_nodes.specs.Values.{bare, value_at, values_of}
 use Rattle.trie_nodes.proofs.answers.push_values.Given as goal
 

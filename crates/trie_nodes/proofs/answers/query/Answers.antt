@@ -1,9 +1,9 @@
 use Rattle.std.proofs.Common.{List, map, ap, sym, ◌∙◌, arith, refl}
 use Rattle.std.proofs.lemmas.List.{take_all}
-use Rattle.hwdb_lookup.specs.Query.{property, winners}
-use Rattle.hwdb_lookup.proofs.Stripping.{same_stripped}
+use Rattle.trie_nodes.specs.Query.{property, winners}
+use Rattle.trie_nodes.proofs.Stripping.{same_stripped}
 use Rattle.trie_nodes.specs.declared.node.Node.{Node}
-use Rattle.hwdb_lookup.specs.Found.{found_entries}
+use Rattle.trie_nodes.specs.Found.{found_entries}
 use Rattle.trie_nodes.specs.Values.{Value, listed}
 use Rattle.trie_nodes.proofs.Listing.{winners_by_nodes}
 use Rattle.trie_nodes.proofs.answers.query.Goals as goal

@@ -1,6 +1,6 @@
 use Rattle.std.proofs.Common.{◌≡◌, map, take}
-use Rattle.hwdb_lookup.specs.Query.{origin, shown_origin}
-use Rattle.hwdb_lookup.specs.Found.{found_entries}
+use Rattle.trie_nodes.specs.Query.{origin, shown_origin}
+use Rattle.trie_nodes.specs.Found.{found_entries}
 use Rattle.trie_nodes.proofs.answers.query_sources.Given as goal
 
 abbrev pub invariant-loop-winner : goal.invariant-loop-winner

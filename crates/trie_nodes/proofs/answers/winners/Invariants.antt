@@ -1,6 +1,6 @@
 use Rattle.std.proofs.Common.{◌≡◌, map, take}
 use Rattle.std.specs.List.{flat_map}
-use Rattle.hwdb_lookup.specs.Found.{found_entries}
+use Rattle.trie_nodes.specs.Found.{found_entries}
 use Rattle.trie_nodes.specs.Values.{bare, values_of}
 use Rattle.trie_nodes.proofs.answers.winners.Given as goal
 

@@ -2,11 +2,11 @@ use Rattle.std.proofs.Common.{◌≡◌, ◌≤◌, ℕ, List, length, subst, ar
 use Rattle.std.specs.List.{range_with_len}
 use Rattle.std.proofs.lemmas.List.FromFn.{length-range_with_len}
 use Rattle.std.proofs.lemmas.List.Sorted.{length_permutation}
-use Rattle.hwdb_lookup.specs.declared.entry.Entry.{Entry}
+use Rattle.trie_nodes.specs.declared.entry.Entry.{Entry}
 use Rattle.trie_nodes.specs.declared.node.Node.{Node}
 use Rattle.trie_build.specs.Paths.{paths_of}
 use Rattle.trie_build.specs.Sizes.{KeepsBounds}
-use Rattle.hwdb_lookup.specs.Bounds.{max_nodes}
+use Rattle.trie_nodes.specs.Bounds.{max_nodes}
 use Rattle.trie_build.specs.Held.{IsHeld}
 use Rattle.trie_build.proofs.Gathering.{is_trie}
 use Rattle.trie_build.proofs.trie.Trie.build.Goals as goal

@@ -1,5 +1,5 @@
 use Rattle.std.proofs.Common.{◌≡◌, subst, IfOk}
-use Rattle.hwdb_lookup.specs.Query.{shown}
+use Rattle.trie_nodes.specs.Query.{shown}
 use Rattle.trie_build.proofs.Holding.{query_is}
 use Rattle.trie_build.proofs.trie.TrieLookup.query.Goals as goal
 

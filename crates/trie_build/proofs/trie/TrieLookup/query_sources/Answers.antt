@@ -1,5 +1,5 @@
 use Rattle.std.proofs.Common.{◌≡◌, map, subst, IfOk}
-use Rattle.hwdb_lookup.specs.Query.{shown_origin}
+use Rattle.trie_nodes.specs.Query.{shown_origin}
 use Rattle.trie_build.proofs.Holding.{sources_are}
 use Rattle.trie_build.proofs.trie.TrieLookup.query_sources.Goals as goal
 

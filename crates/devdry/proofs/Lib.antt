@@ -1,2 +1,0 @@
-pub mod ByFile
-pub mod Refused

@@ -1,5 +1,0 @@
-use Rattle.std.proofs.Common.{refl}
-use Rattle.devdry.proofs.linking.take_links.Goals as goal
-
-pub returns : goal.returns
-returns g c = record { read = c.in_ok-read.read; is_read = c.in_ok-read.ensures.read; links = refl; reported = c.shown_in.ensures; least = refl }

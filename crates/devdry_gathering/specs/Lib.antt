@@ -1,0 +1,9 @@
+pub mod Terminals
+pub mod Notes
+pub mod Said
+pub mod Reading
+pub mod Links
+pub mod Words
+pub mod Ended
+pub mod Gathered
+pub mod Gathers

@@ -1,5 +1,0 @@
-use Rattle.devdry_input.proofs.Whole.{AfterReads}
-use Rattle.devdry_input.proofs.reading.read_whole.Given as goal
-
-abbrev pub invariant-loop-made : goal.invariant-loop-made
-invariant-loop-made g l = AfterReads l._made l.text.items (g.I.Source.shown l.initial.input) (g.I.Source.shown l.input)

@@ -1,3 +1,0 @@
-pub mod Whole
-pub mod Pieces
-pub mod Beside

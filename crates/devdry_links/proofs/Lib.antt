@@ -1,0 +1,3 @@
+pub mod NoBreak
+pub mod LeastRanks
+pub mod EachImport

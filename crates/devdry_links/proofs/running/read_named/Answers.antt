@@ -1,5 +1,0 @@
-use Rattle.std.proofs.Common.{rules}
-use Rattle.devdry_links.proofs.running.read_named.Goals as goal
-
-pub returns : goal.returns
-returns g c = record { some = c.in_ok-some.some; are_read = c.in_ok-some.ensures.some; files = search rules; report = search rules }

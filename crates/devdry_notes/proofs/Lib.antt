@@ -1,2 +1,0 @@
-pub mod NoBreak
-pub mod LeastRanks

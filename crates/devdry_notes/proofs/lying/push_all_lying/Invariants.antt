@@ -1,6 +1,0 @@
-use Rattle.std.proofs.Common.{◌≡◌, ◌++◌, flat_map, take}
-use Rattle.devdry_notes.specs.Lying.{lying_note}
-use Rattle.devdry_notes.proofs.lying.push_all_lying.Given as goal
-
-abbrev pub invariant-loop-path : goal.invariant-loop-path
-invariant-loop-path l = l.notes.items ≡ l.initial.notes.items ++ flat_map (lying_note l.line l.files) (take l.path-index l.paths)

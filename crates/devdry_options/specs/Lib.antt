@@ -1,4 +1,0 @@
-pub mod Names
-pub mod Words
-pub mod Files
-pub mod Faults

@@ -1,3 +1,0 @@
-pub mod Tried
-pub mod Notes
-pub mod Laws

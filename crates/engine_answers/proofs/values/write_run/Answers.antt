@@ -1,0 +1,16 @@
+use Rattle.std.proofs.Common.{append_assoc}
+use Rattle.engine_answers.specs.Members.{run_value}
+use Rattle.engine_answers.proofs.values.write_run.Goals as goal
+
+pub returns-clause-tokens : goal.returns-clause-tokens
+unfolding run_value
+returns-clause-tokens c =
+    rw (
+      c.in_ok-end_object.ensures.ok,
+      c.in_ok-write_told-2.ensures.tokens,
+      c.in_ok-write_told.ensures.tokens,
+      c.in_ok-begin_object.ensures.ok,
+      c.name.ensures.name,
+      c.as_slice.ensures,
+    )
+    (simp append_assoc)

@@ -1,3 +1,0 @@
-pub mod EnvMembers
-mod Sourced
-mod ReadBack

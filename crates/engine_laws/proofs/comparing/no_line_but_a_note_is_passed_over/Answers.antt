@@ -1,7 +1,0 @@
-use Rattle.std.proofs.Common.{codes}
-use Rattle.engine_ends.specs.EventLine.{event_line}
-use Rattle.engine_compare.proofs.Reporting.{apart}
-use Rattle.engine_laws.proofs.comparing.no_line_but_a_note_is_passed_over.Goals as goal
-
-pub returns : goal.returns
-returns c = λ event. apart (event_line event.action event.device.path) (codes "-nowatch\n") (codes "+link n\n") (codes "\n")

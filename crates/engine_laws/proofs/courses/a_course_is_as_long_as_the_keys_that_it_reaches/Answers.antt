@@ -1,5 +1,0 @@
-use Rattle.engine_laws.proofs.Told.{course_length}
-use Rattle.engine_laws.proofs.courses.a_course_is_as_long_as_the_keys_that_it_reaches.Goals as goal
-
-pub returns : goal.returns
-returns c = course_length

@@ -1,5 +1,0 @@
-use Rattle.engine_laws.proofs.Nearest.{none_is_nearer}
-use Rattle.engine_laws.proofs.courses.no_place_is_nearer_than_the_nearest.Goals as goal
-
-pub returns : goal.returns
-returns c = none_is_nearer

@@ -1,5 +1,0 @@
-use Rattle.engine_laws.proofs.Reading.{block_fine}
-use Rattle.engine_laws.proofs.questions.filled_in_questions_are_answers.Goals as goal
-
-pub returns-clause-others : goal.returns-clause-others
-returns-clause-others c block event h = block_fine block event h

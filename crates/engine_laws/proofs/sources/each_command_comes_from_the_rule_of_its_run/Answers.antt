@@ -1,6 +1,0 @@
-use Rattle.engine_laws.proofs.Lines.{commands_around}
-use Rattle.std.proofs.Common.{refl}
-use Rattle.engine_laws.proofs.sources.each_command_comes_from_the_rule_of_its_run.Goals as goal
-
-pub returns : goal.returns
-returns c = record { kept = commands_around; made = λ run. refl }

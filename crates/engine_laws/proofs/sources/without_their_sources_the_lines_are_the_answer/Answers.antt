@@ -1,5 +1,0 @@
-use Rattle.engine_laws.proofs.Lines.{lines_alone}
-use Rattle.engine_laws.proofs.sources.without_their_sources_the_lines_are_the_answer.Goals as goal
-
-pub returns : goal.returns
-returns c = lines_alone

@@ -1,5 +1,0 @@
-pub mod Outcomes
-pub mod Runs
-pub mod Databases
-pub mod Taking
-pub mod Inputs

@@ -1,4 +1,0 @@
-pub mod Filtering
-pub mod Finding
-pub mod Lacking
-pub mod Seeing

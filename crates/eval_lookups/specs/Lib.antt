@@ -1,4 +1,0 @@
-pub mod LookUps
-pub mod LookUpNeeds
-pub mod UsbModalias
-pub mod Inner

@@ -1,5 +1,0 @@
-use Rattle.eval_matching.proofs.Parts.{first_alone, first_of_several}
-use Rattle.eval_matching.proofs.laws.the_first_part_is_between_bars.Goals as goal
-
-pub returns : goal.returns
-returns c = record { last = first_alone; others = first_of_several }

@@ -1,5 +1,0 @@
-use Rattle.index_reading.proofs.Faults.{no_fault, one_fault}
-use Rattle.hwdb_laws.proofs.checks.a_file_fails_one_check_first.Goals as goal
-
-pub returns : goal.returns
-returns c = record { one = one_fault; none = no_fault }

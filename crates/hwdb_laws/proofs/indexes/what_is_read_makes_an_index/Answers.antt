@@ -1,5 +1,0 @@
-use Rattle.hwdb_laws.proofs.Indexing.{accepted, answers, lists, reports, short}
-use Rattle.hwdb_laws.proofs.indexes.what_is_read_makes_an_index.Goals as goal
-
-pub returns : goal.returns
-returns c = record { accepted = accepted; length = short; listed = lists; query = answers; sources = reports }

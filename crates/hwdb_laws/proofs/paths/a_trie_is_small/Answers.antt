@@ -1,5 +1,0 @@
-use Rattle.trie_build.proofs.Counting.{few_names, few_paths, few_sets}
-use Rattle.hwdb_laws.proofs.paths.a_trie_is_small.Goals as goal
-
-pub returns : goal.returns
-returns c = record { nodes = few_paths; sets = few_sets; names = few_names }

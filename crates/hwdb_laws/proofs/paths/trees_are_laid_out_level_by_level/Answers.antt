@@ -1,5 +1,0 @@
-use Rattle.trie_build.proofs.Children.{level_by_level}
-use Rattle.hwdb_laws.proofs.paths.trees_are_laid_out_level_by_level.Goals as goal
-
-pub returns : goal.returns
-returns c = level_by_level

@@ -1,5 +1,0 @@
-use Rattle.hwdb_laws.proofs.Row1.{accepted, lists}
-use Rattle.hwdb_laws.proofs.reading.an_index_of_version_1.Goals as goal
-
-pub returns : goal.returns
-returns c = record { accepted = accepted; listed = lists }

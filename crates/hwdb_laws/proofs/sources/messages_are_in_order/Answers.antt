@@ -1,5 +1,0 @@
-use Rattle.hwdb_laws.proofs.Reporting.{messages_follow, messages_named, messages_rise}
-use Rattle.hwdb_laws.proofs.sources.messages_are_in_order.Goals as goal
-
-pub returns : goal.returns
-returns c = record { files = messages_follow; rise = messages_rise; named = messages_named }

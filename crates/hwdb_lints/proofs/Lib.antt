@@ -1,2 +1,0 @@
-pub mod FormLaw
-pub mod Earlier

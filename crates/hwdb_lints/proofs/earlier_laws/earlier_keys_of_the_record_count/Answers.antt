@@ -1,5 +1,0 @@
-use Rattle.hwdb_lints.proofs.Earlier.{record_keys}
-use Rattle.hwdb_lints.proofs.earlier_laws.earlier_keys_of_the_record_count.Goals as goal
-
-pub returns : goal.returns
-returns c = record_keys

@@ -1,5 +1,0 @@
-use Rattle.hwdb_lints.proofs.Earlier.{file_lints}
-use Rattle.hwdb_lints.proofs.earlier_laws.lines_are_looked_at_by_those_before_them.Goals as goal
-
-pub returns : goal.returns
-returns c = file_lints

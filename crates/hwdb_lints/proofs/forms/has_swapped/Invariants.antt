@@ -1,6 +1,0 @@
-use Rattle.std.proofs.Common.{◌≡◌, drop}
-use Rattle.hwdb_lints.specs.Forms.{has_swapped}
-use Rattle.hwdb_lints.proofs.forms.has_swapped.Given as goal
-
-abbrev pub invariant-loop-place : goal.invariant-loop-place
-invariant-loop-place l = has_swapped (drop l.place-index l.form) l.rest ≡ has_swapped l.form l.text

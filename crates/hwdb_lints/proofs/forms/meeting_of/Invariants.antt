@@ -1,6 +1,0 @@
-use Rattle.std.proofs.Common.{◌≡◌, drop}
-use Rattle.hwdb_lints.specs.Forms.{meeting_of}
-use Rattle.hwdb_lints.proofs.forms.meeting_of.Given as goal
-
-abbrev pub invariant-loop-place : goal.invariant-loop-place
-invariant-loop-place l = meeting_of (drop l.place-index l.form) l.rest ≡ meeting_of l.form l.text

@@ -1,9 +1,0 @@
-pub mod Counting
-pub mod Placing
-pub mod Keys
-pub mod Orders
-pub mod Settling
-pub mod Sorted
-pub mod Places
-pub mod Stripping
-pub mod Unique

@@ -1,7 +1,0 @@
-use Rattle.std.proofs.Common.{◌≡◌, [], fold, take}
-use Rattle.hwdb_lookup.specs.Found.{found_entries}
-use Rattle.hwdb_lookup.specs.Query.{put}
-use Rattle.hwdb_lookup.proofs.found.settle.Given as goal
-
-abbrev pub invariant-loop-property : goal.invariant-loop-property
-invariant-loop-property l = found_entries l.won.items ≡ fold put [] (found_entries (take l.property-index l.property-items))

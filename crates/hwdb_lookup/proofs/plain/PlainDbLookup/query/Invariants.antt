@@ -1,7 +1,0 @@
-use Rattle.std.proofs.Common.{◌≡◌, map, take}
-use Rattle.hwdb_lookup.specs.Found.{found_entries}
-use Rattle.hwdb_lookup.specs.Query.{property, shown}
-use Rattle.hwdb_lookup.proofs.plain.PlainDbLookup.query.Given as goal
-
-abbrev pub invariant-loop-winner : goal.invariant-loop-winner
-invariant-loop-winner l = shown l.found.items ≡ map property (found_entries (take l.winner-index l.winner-items))

@@ -1,7 +1,0 @@
-use Rattle.std.proofs.Common.{◌≡◌, ◌++◌, drop, filter, map}
-use Rattle.link_files.specs.Lists.{counts, signed}
-use Rattle.link_files.proofs.lists.add_words.Given as goal
-
-abbrev pub invariant-loop-word : goal.invariant-loop-word
-invariant-loop-word l =
-    l.held.items ++ map (signed l.negated) (filter (counts l.kind) (drop l.word-index l.words)) ≡ l.fn.held.items ++ map (signed l.negated) (filter (counts l.kind) l.words)

@@ -1,7 +1,0 @@
-use Rattle.std.proofs.Common.{◌∷◌}
-use Rattle.link_files.specs.Settings.{unread}
-use Rattle.link_lints.proofs.Sound.{files_sound}
-use Rattle.link_lints.proofs.laws.faultless_files_are_used.Goals as goal
-
-pub returns : goal.returns
-returns c file drop_ins h = files_sound unread (file ∷ drop_ins) h

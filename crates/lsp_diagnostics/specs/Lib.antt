@@ -1,5 +1,0 @@
-pub mod Severities
-pub mod Diagnostics
-pub mod Documents
-pub mod Fixes
-pub mod Begun

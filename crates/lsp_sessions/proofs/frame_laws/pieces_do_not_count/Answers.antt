@@ -1,5 +1,0 @@
-use Rattle.lsp_sessions.proofs.ItemLemmas.{held_both, items_both}
-use Rattle.lsp_sessions.proofs.frame_laws.pieces_do_not_count.Goals as goal
-
-pub returns : goal.returns
-returns c = record { held = held_both; items = items_both }

@@ -1,5 +1,0 @@
-use Rattle.lsp_sessions.proofs.ItemLemmas.{frames_read}
-use Rattle.lsp_sessions.proofs.frame_laws.what_is_framed_is_read_back.Goals as goal
-
-pub returns : goal.returns
-returns c = record { items = λ contents fit. (frames_read contents fit).items_are; held = λ contents fit. (frames_read contents fit).held_is }

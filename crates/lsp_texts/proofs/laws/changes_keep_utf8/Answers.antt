@@ -1,5 +1,0 @@
-use Rattle.lsp_texts.proofs.Characters.{keeps_utf8}
-use Rattle.lsp_texts.proofs.laws.changes_keep_utf8.Goals as goal
-
-pub returns : goal.returns
-returns c = keeps_utf8

@@ -1,9 +1,0 @@
-pub mod Units
-pub mod Starts
-pub mod Whole
-pub mod Rows
-pub mod Places
-pub mod ChangeValues
-pub mod Changes
-pub mod Documents
-pub mod Examples

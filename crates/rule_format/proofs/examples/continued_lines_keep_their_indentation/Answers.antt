@@ -1,7 +1,0 @@
-use Rattle.std.proofs.Common.{refl}
-use Rattle.rule_format.proofs.Computing.{computed}
-use Rattle.rule_format.proofs.examples.continued_lines_keep_their_indentation.Goals as goal
-
-pub returns : goal.returns
-unfolding computed
-returns c = refl

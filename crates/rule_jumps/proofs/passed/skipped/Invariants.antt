@@ -1,6 +1,0 @@
-use Rattle.std.proofs.Common.{map}
-use Rattle.rule_jumps.proofs.Counting.{Ascends}
-use Rattle.rule_jumps.proofs.passed.skipped.Given as goal
-
-abbrev pub invariant-loop-rule : goal.invariant-loop-rule
-invariant-loop-rule l = Ascends l.labels l.counts.items (map (λ r. r.now) l.yielded)

@@ -1,5 +1,0 @@
-use Rattle.rule_jumps.proofs.Passing.{Descends}
-use Rattle.rule_jumps.proofs.passes.unused_flags.Given as goal
-
-abbrev pub invariant-loop-rule : goal.invariant-loop-rule
-invariant-loop-rule l = Descends l.waiting l.flags.items l.rules l.rule-index

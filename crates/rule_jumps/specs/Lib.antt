@@ -1,4 +1,0 @@
-pub mod Passes
-pub mod Jumps
-pub mod Walks
-pub mod Passed

@@ -1,9 +1,0 @@
-pub mod AccountTables
-pub mod Cutting
-pub mod Reporting
-pub mod FirstPairs
-pub mod Likeness
-pub mod WordSets
-pub mod Beginnings
-pub mod Chances
-pub mod Later

@@ -1,8 +1,0 @@
-use Rattle.std.proofs.Common.{◌≡◌, [], drop, filter, map}
-use Rattle.text_tables.specs.Texts.{is_among, with_texts}
-use Rattle.rule_pairs.proofs.known.in_both.Given as goal
-
-abbrev pub invariant-loop-text : goal.invariant-loop-text
-invariant-loop-text l =
-    with_texts l.both (filter (is_among l.others) (map (λ text. text.items) (drop l.text-index l.texts)))
-    ≡ with_texts [] (filter (is_among l.others) (map (λ text. text.items) l.texts))

@@ -1,8 +1,0 @@
-use Rattle.rule_templates.proofs.Examples.{unknown_dollar, unknown_percent}
-use Rattle.rule_templates.proofs.laws.an_unknown_sign_is_a_byte.Goals as goal
-
-pub returns-clause-dollar : goal.returns-clause-dollar
-returns-clause-dollar c = unknown_dollar
-
-pub returns-clause-percent : goal.returns-clause-percent
-returns-clause-percent c = unknown_percent

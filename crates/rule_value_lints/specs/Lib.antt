@@ -1,9 +1,0 @@
-pub mod Tables
-pub mod Texts
-pub mod Kernel
-pub mod Never
-pub mod Near
-pub mod Values
-pub mod Assignments
-pub mod ValueLints
-pub mod Laws

@@ -1,5 +1,0 @@
-use Rattle.text_bytes.proofs.Escaping.{unescaped-escape_text}
-use Rattle.text_laws.proofs.files.escaped_is_read_back.Goals as goal
-
-pub returns : goal.returns
-returns c = unescaped-escape_text

@@ -1,5 +1,0 @@
-use Rattle.text_laws.proofs.Belonging.{set_has-set_of}
-use Rattle.text_laws.proofs.patterns.set_has_what_passes.Goals as goal
-
-pub returns : goal.returns
-returns c = set_has-set_of

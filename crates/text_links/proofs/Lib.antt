@@ -1,3 +1,0 @@
-pub mod JoinedWords
-pub mod Places
-pub mod ReadingBack

@@ -1,5 +1,0 @@
-use Rattle.text_tallies.proofs.Counting.{nothing_differs}
-use Rattle.text_tallies.proofs.laws.nothing_differs_where_lines_are_the_same.Goals as goal
-
-pub returns : goal.returns
-returns c = nothing_differs

@@ -1,6 +1,0 @@
-use Rattle.std.proofs.Common.{[]}
-use Rattle.text_tallies.proofs.Counting.{following-push}
-use Rattle.text_tallies.proofs.laws.the_last_of_equal_lines_are_reported.Goals as goal
-
-pub returns : goal.returns
-returns c = λ texts others text. following-push [] texts others text

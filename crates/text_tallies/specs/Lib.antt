@@ -1,2 +1,0 @@
-pub mod Surplus
-pub mod Tallies

@@ -1,6 +1,0 @@
-use Rattle.std.proofs.Common.{◌≡◌}
-use Rattle.trie_core.specs.Writing.{named, place_before}
-use Rattle.trie_core.proofs.values.texts_len.Given as goal
-
-abbrev pub invariant-loop-j : goal.invariant-loop-j
-invariant-loop-j l = l.len ≡ place_before (named l.entries l.order) l.j

@@ -1,4 +1,0 @@
-pub mod Image
-pub mod Sound
-pub mod Entries
-pub mod Writing

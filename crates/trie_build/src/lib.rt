@@ -15,7 +15,7 @@ mod groups;
 mod header;
 mod index;
 mod index_fault;
-mod kinds;
+pub mod kinds;
 mod labels;
 mod made;
 mod nodes;

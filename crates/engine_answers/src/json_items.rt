@@ -213,7 +213,7 @@ fn write_labels(
 }
 
 /// Writes a name with its value.
-fn write_value(
+fn write_pair(
     alloc: Global,
     writer: &mut Writer,
     sources: Option<&Sources<'_>>,
@@ -242,7 +242,7 @@ fn write_each_value(
     ensures before { OnOk result (writer.new.before ≡ writer.old.before) }
 {
     for (name, value) in pairs.as_map().iter() {
-        write_value(
+        write_pair(
             alloc,
             writer,
             sources,
@@ -289,7 +289,7 @@ fn write_shown(
     if is_hidden(name) {
         return Ok(());
     }
-    write_value(alloc, writer, sources, b"env", name, value)
+    write_pair(alloc, writer, sources, b"env", name, value)
 }
 
 /// Writes properties one after another.

@@ -41,7 +41,7 @@ pub enum FramePart {
 /// Frames that are taken byte by byte, with what is held of the one that is not complete.
 #[derive(Drop)]
 pub struct Frames {
-    phase: FramePart,
+    part: FramePart,
     bytes: Vec<u8>,
 }
 
@@ -50,7 +50,7 @@ impl Model for Frames {
 
     ghost Value = { Held };
 
-    ghost view = { λ f. held_in f.phase f.bytes.items };
+    ghost view = { λ f. held_in f.part f.bytes.items };
 }
 
 impl Frames {
@@ -59,7 +59,7 @@ impl Frames {
         ensures { result ≡ start }
     {
         Frames {
-            phase: FramePart::Header,
+            part: FramePart::Header,
             bytes: Vec::new(alloc),
         }
     }
@@ -71,22 +71,22 @@ impl Frames {
         ensures ok { IfOk result (λ item. record { held = self.new; item = item } ≡ taken self.old byte) }
         ensures err { OnErr result (self.new ≡ self.old) }
     {
-        match self.phase {
+        match self.part {
             FramePart::Header => {
                 self.bytes.push(byte)?;
-                let (phase, item) = header_taken(alloc, &mut self.bytes);
-                self.phase = phase;
+                let (part, item) = header_taken(alloc, &mut self.bytes);
+                self.part = part;
                 Ok(item)
             }
             FramePart::Content(missing) => {
                 self.bytes.push(byte)?;
-                let (phase, item) = content_taken(alloc, missing, &mut self.bytes);
-                self.phase = phase;
+                let (part, item) = content_taken(alloc, missing, &mut self.bytes);
+                self.part = part;
                 Ok(item)
             }
             FramePart::Passing(left) => {
                 self.bytes.clear();
-                self.phase = passed(left);
+                self.part = passed(left);
                 Ok(None)
             }
         }

@@ -29,7 +29,7 @@ def placed(name):
 
 def block(given):
     """The event of a case. Its properties are those that rules would have set before."""
-    attributes = ATTRIBUTES | {"name_assign_type": given.get("source", "3")}
+    attributes = ATTRIBUTES | {"name_assign_type": given.get("source", "3"), "type": given.get("type", ATTRIBUTES["type"])}
     cmdline = given.get("cmdline")
     return "".join(f"{line}\n" for line in (
         f"C: {given.get('action', 'add')}", f"P: {PATH}", "U: net", f"E: INTERFACE={DEVICE}", "E: IFINDEX=3",
@@ -80,4 +80,22 @@ def matching(key, machine, value, met):
     return row(f"{key}={value.splitlines()[0]} in {len(value.splitlines())} lines where {', '.join(machine)}", {"10-a.link": f"[Match]\n{key}={value}\n[Link]\nName=abc0\n"}, {"machine": machine}, real)
 
 
-ROWS = [row(*case) for case in CASES] + [matching(key, machine, value, met) for key, machine, values in MACHINES for value, met in values.items()]
+# the numbers of hardware that interfaces have, by linux/if_arp.h of Linux 6.1 (Debian bookworm), each with its name behind ARPHRD_
+HARDWARE = """
+    1 ETHER; 24 IEEE1394; 32 INFINIBAND; 256 SLIP; 257 CSLIP; 258 SLIP6; 259 CSLIP6; 280 CAN; 290 MCTP; 512 PPP; 519 RAWIP; 768 TUNNEL; 769 TUNNEL6;
+    772 LOOPBACK; 776 SIT; 778 IPGRE; 779 PIMREG; 801 IEEE80211; 802 IEEE80211_PRISM; 803 IEEE80211_RADIOTAP; 804 IEEE802154; 805 IEEE802154_MONITOR;
+    820 PHONET; 821 PHONET_PIPE; 822 CAIF; 823 IP6GRE; 824 NETLINK; 825 6LOWPAN; 826 VSOCKMON; 65534 NONE; 65535 VOID
+"""
+
+
+def typed(number, name):
+    """A run over files of which one is for hardware of this name, and the next for any other."""
+    files = {"10-a.link": f"[Match]\nType={name.lower()}\n[Link]\nName=abc0\n", "20-b.link": "[Match]\nOriginalName=*\n[Link]\nName=abc1\n"}
+    return row(f"hardware {number} is {name}", files, {"type": number}, NAMED)
+
+
+ROWS = [
+    *(row(*case) for case in CASES),
+    *(matching(key, machine, value, met) for key, machine, values in MACHINES for value, met in values.items()),
+    *(typed(*one.split()) for one in HARDWARE.split(";")),
+]

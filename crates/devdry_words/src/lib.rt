@@ -8,7 +8,6 @@ mod added;
 mod arguments;
 mod commands;
 mod endings;
-mod ignored;
 mod laws;
 mod line_reading;
 mod options;

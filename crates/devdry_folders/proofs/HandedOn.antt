@@ -1,20 +1,18 @@
 -- Whether any file was read, and whether any is passed on.
-use Rattle.std.proofs.Common.{◌≡◌, ◌∙◌, ◌++◌, ◌∷◌, ◌==◌, ◌&&◌, ◌||◌, [], Option, None, Some, ap, codes, filter, is_some, arith, Bool, cond, false, flat_map, length, List, not, refl, sym, true, ℕ}
+use Rattle.std.proofs.Common.{◌≡◌, ◌∙◌, ◌++◌, ◌∷◌, ◌==◌, ◌&&◌, ◌||◌, [], Option, None, Some, ap, filter, is_some, arith, Bool, cond, false, flat_map, length, List, not, refl, sym, true, ℕ}
 use Rattle.text_bytes.specs.declared.source_file.FileKind.{FileKind}
 use Rattle.text_bytes.specs.declared.source_file.FileKind.TheVariants.{Hwdb}
 use Rattle.text_bytes.specs.declared.source_file.SourceFile.{SourceFile}
 use Rattle.std.specs.List.{list_any}
 use Rattle.std.specs.Option.{option_to_list}
 use Rattle.std.proofs.lemmas.List.Elements.{filter-append}
-use Rattle.devdry_folders.specs.Laws.{files_among, is_unread_at, lacks_any, lacks_some, passes_needed}
+use Rattle.devdry_folders.specs.Laws.{files_among, lacks_any, lacks_some, passes_needed}
 use Rattle.devdry_folders.specs.Indexes.{index_bytes, is_index_read}
 use Rattle.devdry_folders.specs.Missing.{has_needed}
-use Rattle.devdry_folders.specs.Nothing.{has_unread, is_unread, nothing_lines}
-use Rattle.devdry_folders.specs.Unread.{file_of_met, file_of_sight, files_of, files_of_visit, has_file, has_files, is_file, is_one_of, least_status, line_on_met, line_on_spot, lines_on_visit, unread_lines}
-use Rattle.devdry_folders.specs.Surveys.{all_unread}
+use Rattle.devdry_folders.specs.Nothing.{has_unread, nothing_lines}
+use Rattle.devdry_folders.specs.Unread.{all_unread, file_of_met, file_of_sight, files_of, files_of_visit, has_file, has_files, is_file, is_one_of, least_status, lines_on_scan, reason_at, reason_met, said_by, sights_said}
 use Rattle.devdry_folders.specs.declared.elsewhere.Elsewhere.{Elsewhere}
-use Rattle.devdry_folders.specs.declared.sights.Spot.{Spot}
-use Rattle.devdry_folders.specs.declared.sights.Spot.TheVariants as spot
+use Rattle.devdry_folders.specs.declared.reasons.Reason.{Reason}
 use Rattle.devdry_folders.specs.declared.sights.Met.{Met}
 use Rattle.devdry_folders.specs.declared.sights.Met.TheVariants as met
 use Rattle.devdry_folders.specs.declared.sights.Sight.{Sight}
@@ -109,32 +107,28 @@ says_both : (text more : List ℕ) → says (text ++ more) ≡ (says text || say
 says_both [] more = refl
 says_both (byte ∷ text) more = refl
 
-met_is_said : (for_people : Bool) (path : List ℕ) (it : Met) → says (line_on_met for_people path it) ≡ is_unread it
-met_is_said for_people path (met.File bytes) = refl
-met_is_said for_people path met.OtherName = refl
-met_is_said for_people path met.Folder = refl
-met_is_said for_people path (met.Unread reason) = refl
+reason_is_said : (for_people : Bool) (path : List ℕ) (reason : Option Reason) → says (said_by for_people path reason) ≡ is_some reason
+reason_is_said for_people path None = refl
+reason_is_said for_people path (Some reason) = refl
 
-spot_is_said : (for_people : Bool) (path : List ℕ) (it : Spot) → says (line_on_spot for_people path it) ≡ is_unread_at it
-spot_is_said for_people path spot.Absent = refl
-spot_is_said for_people path spot.Folder = refl
-spot_is_said for_people path spot.File = refl
-spot_is_said for_people path (spot.Unread reason) = refl
-
-sights_are_said : (for_people : Bool) (sights : List Sight) → says (flat_map (λ s. line_on_met for_people s.path s.met) sights) ≡ has_unread sights
+sights_are_said : (for_people : Bool) (sights : List Sight) → says (sights_said for_people sights) ≡ has_unread sights
 sights_are_said for_people [] = refl
 sights_are_said for_people (s ∷ sights) =
-    says_both (line_on_met for_people s.path s.met) (flat_map (λ s. line_on_met for_people s.path s.met) sights)
-    ∙ ap (λ b. b || says (flat_map (λ s. line_on_met for_people s.path s.met) sights)) (met_is_said for_people s.path s.met)
-    ∙ ap (λ b. is_unread s.met || b) (sights_are_said for_people sights)
+    says_both (said_by for_people s.path (reason_met s.met)) (sights_said for_people sights)
+    ∙ ap (λ b. b || says (sights_said for_people sights)) (reason_is_said for_people s.path (reason_met s.met))
+    ∙ ap (λ b. is_some (reason_met s.met) || b) (sights_are_said for_people sights)
 
-visits_are_said : (for_people : Bool) (visits : List Visit) → says (unread_lines for_people visits) ≡ list_any lacks_some visits
+-- the lines on visits
+abbrev visits_said : Bool → List Visit → List ℕ
+visits_said for_people visits = flat_map (λ v. lines_on_scan for_people v.path v.scan) visits
+
+visits_are_said : (for_people : Bool) (visits : List Visit) → says (visits_said for_people visits) ≡ list_any lacks_some visits
 visits_are_said for_people [] = refl
 visits_are_said for_people (v ∷ visits) =
-    says_both (lines_on_visit for_people v) (unread_lines for_people visits)
-    ∙ ap (λ b. b || says (unread_lines for_people visits)) (says_both (line_on_spot for_people v.path v.scan.spot) (flat_map (λ s. line_on_met for_people s.path s.met) v.scan.sights.items))
-    ∙ ap (λ b. (b || says (flat_map (λ s. line_on_met for_people s.path s.met) v.scan.sights.items)) || says (unread_lines for_people visits)) (spot_is_said for_people v.path v.scan.spot)
-    ∙ ap (λ b. (is_unread_at v.scan.spot || b) || says (unread_lines for_people visits)) (sights_are_said for_people v.scan.sights.items)
+    says_both (lines_on_scan for_people v.path v.scan) (visits_said for_people visits)
+    ∙ ap (λ b. b || says (visits_said for_people visits)) (says_both (said_by for_people v.path (reason_at v.scan.spot)) (sights_said for_people v.scan.sights.items))
+    ∙ ap (λ b. (b || says (sights_said for_people v.scan.sights.items)) || says (visits_said for_people visits)) (reason_is_said for_people v.path (reason_at v.scan.spot))
+    ∙ ap (λ b. (is_some (reason_at v.scan.spot) || b) || says (visits_said for_people visits)) (sights_are_said for_people v.scan.sights.items)
     ∙ ap (λ b. lacks_some v || b) (visits_are_said for_people visits)
 
 -- one of two numbers
@@ -159,8 +153,8 @@ index_is_read (Some s) = by s.met
 
 all_are_said : (for_people : Bool) (survey : Survey) → says (all_unread for_people survey) ≡ lacks_any survey
 all_are_said for_people survey =
-    says_both (unread_lines for_people survey.visits.items) (flat_map (λ s. line_on_met for_people s.path s.met) (option_to_list survey.index))
-    ∙ ap (λ b. b || says (flat_map (λ s. line_on_met for_people s.path s.met) (option_to_list survey.index))) (visits_are_said for_people survey.visits.items)
+    says_both (visits_said for_people survey.visits.items) (sights_said for_people (option_to_list survey.index))
+    ∙ ap (λ b. b || says (sights_said for_people (option_to_list survey.index))) (visits_are_said for_people survey.visits.items)
     ∙ ap (λ b. list_any lacks_some survey.visits.items || b) (sights_are_said for_people (option_to_list survey.index))
 
 needed : (kinds : List FileKind) (survey : Survey) → has_needed kinds survey ≡ passes_needed kinds survey

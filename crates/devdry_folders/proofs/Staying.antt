@@ -3,7 +3,7 @@ use Rattle.std.proofs.Common.{◌≡◌, ◌∙◌, ◌++◌, ◌∷◌, ◌||�
 use Rattle.std.specs.declared.alloc.Global.{Global}
 use Rattle.devdry_files.specs.Answers.{Answer}
 use Rattle.devdry_files.specs.Answers.Answer.{Stepped}
-use Rattle.devdry_files.specs.Walks.{EntersBy, Enters, GoesOn, Leads, Walks, Way, above, is_absolute, is_here, is_up, names_in, next_by, place_by, place_in, settled}
+use Rattle.devdry_files.specs.Walks.{EntersBy, GoesOn, Leads, Walks, Way, is_absolute, is_here, is_up, names_in, next_by, place_by, place_in, settled}
 use Rattle.devdry_files.specs.declared.look.Look.{Look}
 use Rattle.devdry_files.specs.declared.step.End.{End}
 use Rattle.devdry_files.specs.declared.step.End.TheVariants as end

@@ -1,32 +1,20 @@
 -- What people are told about a path that a line asks for and that can't be read.
 use Rattle.std.specs.Prelude.{◌≡◌, ◌&&◌, Bool, true, false, if◌then◌else◌, List, [], ◌∷◌, Option, Some, None}
 use Rattle.std.specs.List.{list_any}
-use Rattle.std.specs.Option.{option_or, option_to_list}
+use Rattle.std.specs.Option.{option_copied, option_or, option_to_list}
 use Rattle.text_bytes.specs.Text.{Text}
 use Rattle.text_tables.specs.Texts.{same_text}
 use Rattle.engine_sessions.specs.declared.line.Line.{Line}
 use Rattle.devdry_files.specs.Answers.{Answer}
 use Rattle.devdry_folders.specs.Surveys.{IsSurveyFor}
-use Rattle.devdry_folders.specs.Unread.{advice_lines}
+use Rattle.devdry_folders.specs.Unread.{advice_lines, reason_at, reason_met}
 use Rattle.devdry_folders.specs.declared.reasons.Reason.{Reason}
 use Rattle.devdry_folders.specs.declared.reasons.Reason.TheVariants.{NotRegular}
-use Rattle.devdry_folders.specs.declared.sights.Met.{Met}
-use Rattle.devdry_folders.specs.declared.sights.Met.TheVariants as met
 use Rattle.devdry_folders.specs.declared.sights.Sight.{Sight}
 use Rattle.devdry_folders.specs.declared.sights.Spot.{Spot}
 use Rattle.devdry_folders.specs.declared.sights.Spot.TheVariants as spot
 use Rattle.devdry_folders.specs.declared.sights.Survey.{Survey}
 use Rattle.devdry_folders.specs.declared.sights.Visit.{Visit}
-
--- why what is met can't be read, if it can't
-abbrev pub reason_met : Met → Option Reason
-reason_met (met.Unread reason) = Some reason
-reason_met _ = None
-
--- why what is at the path of a folder can't be read, if it can't
-abbrev pub reason_at : Spot → Option Reason
-reason_at (spot.Unread reason) = Some reason
-reason_at _ = None
 
 -- whether a folder was listed
 abbrev pub is_folder : Spot → Bool
@@ -42,14 +30,11 @@ abbrev pub reason_among : (path : Text) → List Sight → Option Reason
 reason_among path [] = None
 reason_among path (s ∷ sights) = option_or (if_about path s.path (reason_met s.met)) (reason_among path sights)
 
--- the same by a visit: of the folder, and then of what is in it
-abbrev pub reason_of_visit : (path : Text) → Visit → Option Reason
-reason_of_visit path v = option_or (if_about path v.path (reason_at v.scan.spot)) (reason_among path v.scan.sights.items)
-
--- the same by the first of some visits
+-- the same by the first of some visits: of the folder, and then of what is in it
 abbrev pub reason_in_visits : (path : Text) → List Visit → Option Reason
 reason_in_visits path [] = None
-reason_in_visits path (v ∷ visits) = option_or (reason_of_visit path v) (reason_in_visits path visits)
+reason_in_visits path (v ∷ visits) =
+    option_or (option_or (if_about path v.path (reason_at v.scan.spot)) (reason_among path v.scan.sights.items)) (reason_in_visits path visits)
 
 -- the same by a survey: the index is looked at last
 abbrev pub reason_in : (path : Text) → Survey → Option Reason
@@ -72,5 +57,5 @@ advice_in path survey = advice_by (reason_in path survey) (list_any (is_named_fo
 -- path can be read by now.
 pub record IsAdvice (may : Answer → Type 0) (line : Line) (path advice : Text) : Type 0 where
   pub survey : Survey
-  pub is_survey : IsSurveyFor may line survey
+  pub is_survey : IsSurveyFor may line (option_copied line.index) survey
   pub advice_is : advice ≡ advice_in path survey

@@ -1,7 +1,7 @@
 -- The index that a line names, and what is met at its path.
 use Rattle.std.specs.Prelude.{◌≡◌, Bool, false, Option, None, Some}
 use Rattle.std.specs.List.{AllZip}
-use Rattle.std.specs.Option.{option_map_or, option_to_list}
+use Rattle.std.specs.Option.{option_and_then, option_map_or, option_to_list}
 use Rattle.text_bytes.specs.Text.{Text}
 use Rattle.devdry_files.specs.Answers.{Answer}
 use Rattle.devdry_folders.specs.Meetings.{IsFileMet}
@@ -25,5 +25,4 @@ bytes_of _ = None
 
 -- the bytes of an index, if it was read
 abbrev pub index_bytes : Option Sight → Option Text
-index_bytes None = None
-index_bytes (Some s) = bytes_of s.met
+index_bytes index = option_and_then (λ s. bytes_of s.met) index

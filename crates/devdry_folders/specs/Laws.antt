@@ -12,13 +12,11 @@ use Rattle.text_tables.specs.Texts.{is_among}
 use Rattle.engine_sessions.specs.Kinds.{same_kind}
 use Rattle.devdry_folders.specs.Nothing.{has_unread}
 use Rattle.devdry_folders.specs.Indexes.{index_bytes}
-use Rattle.devdry_folders.specs.Unread.{files_of, is_one_of}
+use Rattle.devdry_folders.specs.Unread.{files_of, is_one_of, reason_at}
 use Rattle.devdry_folders.specs.declared.reasons.Reason.{Reason}
 use Rattle.devdry_folders.specs.declared.reasons.Reason.TheVariants.{Absent, Forbidden, LinkToNothing, NotFolder, NotRegular, NotUtf8, Failed}
 use Rattle.devdry_folders.specs.declared.sights.Met.TheVariants as met
 use Rattle.devdry_folders.specs.declared.sights.Sight.{Sight}
-use Rattle.devdry_folders.specs.declared.sights.Spot.{Spot}
-use Rattle.devdry_folders.specs.declared.sights.Spot.TheVariants as spot
 use Rattle.devdry_folders.specs.declared.sights.Survey.{Survey}
 use Rattle.devdry_folders.specs.declared.sights.Visit.{Visit}
 
@@ -31,14 +29,9 @@ abbrev pub differ : List Text → Bool
 differ [] = true
 differ (text ∷ texts) = not (is_empty text) && (not (is_among texts text) && differ texts)
 
--- whether what is at a path can't be read
-abbrev pub is_unread_at : Spot → Bool
-is_unread_at (spot.Unread reason) = true
-is_unread_at _ = false
-
 -- whether a folder or a file that is visited can't be read, or a file in the folder
 abbrev pub lacks_some : Visit → Bool
-lacks_some v = is_unread_at v.scan.spot || has_unread v.scan.sights.items
+lacks_some v = is_some (reason_at v.scan.spot) || has_unread v.scan.sights.items
 
 -- whether anything that was visited can't be read
 abbrev pub lacks_any : Survey → Bool

@@ -19,6 +19,10 @@ target_of (step.Link target) = Some (string_bytes target)
 target_of step.OddLink = Some (codes "?")
 target_of _ = None
 
+-- the symlink at the path leads there, as the disk may show it, or there is none
+abbrev pub IsLinkAt : (Answer → Type 0) → Text → Option Text → Type 0
+IsLinkAt may path link = (shown : Step) × may (Stepped path shown) × (link ≡ target_of shown)
+
 -- why nothing is at a path, by the target of the symlink there, if there is one
 abbrev pub absence : Option Text → Reason
 absence None = reasons.Absent
@@ -32,13 +36,10 @@ IsReadSo may path (met.Unread reasons.Failed) = may (NoContent path disk.Unreada
 IsReadSo may path (met.Unread reasons.NotUtf8) = may (NoContent path disk.NotUtf8)
 IsReadSo may path _ = ⊥
 
--- nothing is at the path, for the reason that the symlink there gives, if there is one
-abbrev pub IsMissing : (Answer → Type 0) → Text → Met → Type 0
-IsMissing may path it = (shown : Step) × may (Stepped path shown) × (it ≡ met.Unread (absence (target_of shown)))
-
--- What is met at the path, by a look at it: a file is read, a folder is skipped, and all else can't be read.
+-- What is met at the path, by a look at it: a file is read, a folder is skipped, and all else can't be read. If nothing is there,
+-- that is for the reason that the symlink there gives, if there is one.
 abbrev pub IsMetBy : (Answer → Type 0) → Text → Look → Met → Type 0
-IsMetBy may path looks.Absent it = IsMissing may path it
+IsMetBy may path looks.Absent it = (link : Option Text) × IsLinkAt may path link × (it ≡ met.Unread (absence link))
 IsMetBy may path looks.Folder it = it ≡ met.Folder
 IsMetBy may path looks.File it = IsReadSo may path it
 IsMetBy may path looks.Forbidden it = it ≡ met.Unread reasons.Forbidden

@@ -1,6 +1,7 @@
 -- What is reported for what can't be read, and the files that were read.
-use Rattle.std.specs.Prelude.{◌++◌, ◌∷◌, ◌==◌, ◌&&◌, ℕ, Bool, true, false, List, [], codes, flat_map, if◌then◌else◌, length, not}
+use Rattle.std.specs.Prelude.{◌++◌, ◌∷◌, ◌==◌, ◌&&◌, ℕ, Bool, true, false, List, [], None, Option, Some, codes, flat_map, if◌then◌else◌, length, not}
 use Rattle.std.specs.List.{list_any}
+use Rattle.std.specs.Option.{option_map_or, option_to_list}
 use Rattle.text_bytes.specs.Text.{Text}
 use Rattle.text_bytes.specs.Escapes.{escape_text}
 use Rattle.text_bytes.specs.Names.{newline}
@@ -15,7 +16,18 @@ use Rattle.devdry_folders.specs.declared.sights.Scan.{Scan}
 use Rattle.devdry_folders.specs.declared.sights.Sight.{Sight}
 use Rattle.devdry_folders.specs.declared.sights.Spot.{Spot}
 use Rattle.devdry_folders.specs.declared.sights.Spot.TheVariants as spot
+use Rattle.devdry_folders.specs.declared.sights.Survey.{Survey}
 use Rattle.devdry_folders.specs.declared.sights.Visit.{Visit}
+
+-- why what is met can't be read, if it can't
+abbrev pub reason_met : Met → Option Reason
+reason_met (met.Unread reason) = Some reason
+reason_met _ = None
+
+-- why what is at the path of a folder can't be read, if it can't
+abbrev pub reason_at : Spot → Option Reason
+reason_at (spot.Unread reason) = Some reason
+reason_at _ = None
 
 -- the line on what can't be read
 abbrev pub unread_line : Text → Reason → Text
@@ -29,28 +41,22 @@ advice_lines reason = codes "  " ++ wrong_by reason ++ codes "\n  = " ++ advice_
 abbrev pub unread_said : (for_people : Bool) → Text → Reason → Text
 unread_said for_people path reason = unread_line path reason ++ (if for_people then advice_lines reason else [])
 
--- the lines on what is met at a path, if it can't be read
-abbrev pub line_on_met : (for_people : Bool) → Text → Met → Text
-line_on_met for_people path (met.Unread reason) = unread_said for_people path reason
-line_on_met for_people path _ = []
+-- what is said about a path, if there is a reason why it can't be read
+abbrev pub said_by : (for_people : Bool) → Text → Option Reason → Text
+said_by for_people path reason = option_map_or (unread_said for_people path) reason []
 
--- the lines on what is at a path, if it can't be listed
-abbrev pub line_on_spot : (for_people : Bool) → Text → Spot → Text
-line_on_spot for_people path (spot.Unread reason) = unread_said for_people path reason
-line_on_spot for_people path _ = []
+-- what is said about sights that can't be read
+abbrev pub sights_said : (for_people : Bool) → List Sight → Text
+sights_said for_people sights = flat_map (λ s. said_by for_people s.path (reason_met s.met)) sights
 
--- the lines on what was met at the path of a folder: on the folder, and on what is in it
+-- what is said about what was met at the path of a folder: about the folder, and about what is in it
 abbrev pub lines_on_scan : (for_people : Bool) → Text → Scan → Text
-lines_on_scan for_people path scan =
-    line_on_spot for_people path scan.spot ++ flat_map (λ s. line_on_met for_people s.path s.met) scan.sights.items
+lines_on_scan for_people path scan = said_by for_people path (reason_at scan.spot) ++ sights_said for_people scan.sights.items
 
--- the lines on a visit
-abbrev pub lines_on_visit : (for_people : Bool) → Visit → Text
-lines_on_visit for_people v = lines_on_scan for_people v.path v.scan
-
--- the lines on all that can't be read, in the order of the visits
-abbrev pub unread_lines : (for_people : Bool) → List Visit → Text
-unread_lines for_people visits = flat_map (lines_on_visit for_people) visits
+-- the lines on all that can't be read, for people or not, in the order of the visits, those on the index last
+abbrev pub all_unread : (for_people : Bool) → Survey → Text
+all_unread for_people survey =
+    flat_map (λ v. lines_on_scan for_people v.path v.scan) survey.visits.items ++ sights_said for_people (option_to_list survey.index)
 
 -- whether a file was read
 abbrev pub is_file : Met → Bool

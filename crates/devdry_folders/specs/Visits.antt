@@ -9,17 +9,17 @@ use Rattle.text_bytes.specs.Text.{Text}
 use Rattle.text_bytes.specs.Kinds.{suffix_of}
 use Rattle.text_bytes.specs.Names.{slash}
 use Rattle.text_bytes.specs.declared.source_file.FileKind.{FileKind}
+use Rattle.engine_sessions.specs.declared.line.Line.{Line}
 use Rattle.devdry_files.specs.Answers.{Answer}
-use Rattle.devdry_files.specs.Answers.Answer.{Listing, Looked, NoListing, Stepped}
+use Rattle.devdry_files.specs.Answers.Answer.{Listing, Looked, NoListing}
 use Rattle.devdry_files.specs.Inside.{MayInside}
-use Rattle.devdry_files.specs.Places.{Place, kind_added, name_at, place_of}
+use Rattle.devdry_files.specs.Places.{Place, Wants, kind_added, name_at, place_of}
 use Rattle.devdry_files.specs.declared.disk.DiskFault.TheVariants as disk
 use Rattle.devdry_files.specs.declared.disk.Entry.{Entry}
 use Rattle.devdry_files.specs.declared.look.Look.{Look}
 use Rattle.devdry_files.specs.declared.look.Look.TheVariants as looks
 use Rattle.devdry_files.specs.declared.places.Wanted.{Wanted}
-use Rattle.devdry_files.specs.declared.step.Step.{Step}
-use Rattle.devdry_folders.specs.Meetings.{IsFileMet, IsMet, IsMetBy, target_of}
+use Rattle.devdry_folders.specs.Meetings.{IsFileMet, IsLinkAt, IsMet, IsMetBy}
 use Rattle.devdry_folders.specs.declared.reasons.Reason.TheVariants as reasons
 use Rattle.devdry_folders.specs.declared.sights.Met.{Met}
 use Rattle.devdry_folders.specs.declared.sights.Met.TheVariants as met
@@ -33,13 +33,6 @@ use Rattle.devdry_folders.specs.declared.sights.Visit.{Visit}
 abbrev pub below : Text → Text → Text
 below folder name = if ends_with nat_eq folder (slash ∷ []) then folder ++ name else folder ++ slash ∷ name
 
--- all names in a folder, sorted byte by byte, as the disk may list it
-pub record AreAllNames (may : Answer → Type 0) (folder : Text) (names : List (String Global)) : Type 0 where
-  pub entries : List Entry
-  pub listed : may (Listing folder entries)
-  pub once : IsPermutation (map (λ e. e.name) entries) names
-  pub rise : IsSorted string_cmp names
-
 -- what is met at a name in a folder of files whose names end in a suffix: a name that does not is not looked at
 pub record IsSightIn (may : Answer → Type 0) (suffix folder : Text) (s : Sight) : Type 0 where
   pub path_is : s.path ≡ below folder s.name
@@ -51,10 +44,13 @@ pub record AreSightsAt (may : Answer → Type 0) (suffix folder : Text) (names :
   pub named_so : map (λ s. s.name) sights ≡ names
   pub each : All (IsSightIn may suffix folder) sights
 
--- what is met in a folder of files with a suffix: one sight for each name, in their order
+-- what is met in a folder of files with a suffix: one sight for each name in it, sorted byte by byte, as the disk may list it
 pub record AreSightsIn (may : Answer → Type 0) (suffix folder : Text) (sights : List Sight) : Type 0 where
+  pub entries : List Entry
+  pub listed : may (Listing folder entries)
   pub names : List (String Global)
-  pub are_names : AreAllNames may folder names
+  pub once : IsPermutation (map (λ e. e.name) entries) names
+  pub rise : IsSorted string_cmp names
   pub are_sights : AreSightsAt may suffix folder (map string_bytes names) sights
 
 -- a folder is not listed for this, as the disk may say: it is gone, can't be listed, or has a name that is not UTF-8
@@ -79,19 +75,15 @@ missing_folder (Some target) = spot.Unread (reasons.LinkToNothing target)
 abbrev pub IsUnlisted : Spot → Scan → Type 0
 IsUnlisted it scan = (scan.spot ≡ it) × (scan.sights.items ≡ [])
 
--- the outcome for a folder that is wanted and not there, by the symlink at its path, if there is one
-abbrev pub IsMissingFolder : (Answer → Type 0) → Text → Scan → Type 0
-IsMissingFolder may path scan = (shown : Step) × may (Stepped path shown) × IsUnlisted (missing_folder (target_of shown)) scan
-
 -- what is at a folder's path, by a look that shows neither a folder nor that nothing is there
 abbrev pub spot_by : Look → Spot
 spot_by looks.Forbidden = spot.Unread reasons.Forbidden
 spot_by looks.Failed = spot.Unread reasons.Failed
 spot_by _ = spot.Unread reasons.NotFolder
 
--- the outcome for a folder that is wanted, by a look
+-- the outcome for a folder that is wanted, by a look; if nothing is there, by the symlink at its path, if there is one
 abbrev pub IsScannedBy : (Answer → Type 0) → (suffix path : Text) → Look → Scan → Type 0
-IsScannedBy may suffix path looks.Absent scan = IsMissingFolder may path scan
+IsScannedBy may suffix path looks.Absent scan = (link : Option Text) × IsLinkAt may path link × IsUnlisted (missing_folder link) scan
 IsScannedBy may suffix path looks.Folder scan = IsListedSo may suffix path scan
 IsScannedBy may suffix path look scan = IsUnlisted (spot_by look) scan
 
@@ -106,17 +98,14 @@ pub record IsFolderVisit (may : Answer → Type 0) (v : Visit) : Type 0 where
   pub unnamed : v.is_named ≡ false
   pub scan : IsFolderScan may (suffix_of v.kind) v.path v.scan
 
--- the outcome for a named file: what is met at its path
-pub record IsOneFile (may : Answer → Type 0) (path : Text) (look : Look) (scan : Scan) : Type 0 where
-  pub at_file : scan.spot ≡ spot.File
-  pub it : Met
-  pub alone : scan.sights.items ≡ record { name = path; path = path; met = it } ∷ []
-  pub met_so : IsMetBy may path look it
+-- the outcome for a file: what is met at its path, under a name
+abbrev pub IsOneFile : (name path : Text) → Met → Scan → Type 0
+IsOneFile name path it scan = (scan.spot ≡ spot.File) × (scan.sights.items ≡ record { name = name; path = path; met = it } ∷ [])
 
--- the outcome for what is named, by a look: a folder is listed
+-- the outcome for what is named, by a look: a folder is listed, and a file is met under its path
 abbrev pub IsNamedSo : (Answer → Type 0) → FileKind → Text → Look → Scan → Type 0
 IsNamedSo may kind path looks.Folder scan = IsListedSo may (suffix_of kind) path scan
-IsNamedSo may kind path look scan = IsOneFile may path look scan
+IsNamedSo may kind path look scan = (it : Met) × IsMetBy may path look it × IsOneFile path path it scan
 
 -- a visit of what is named: a file, or a folder whose files of the kind are taken
 pub record IsNamedVisit (may : Answer → Type 0) (kind : FileKind) (v : Visit) : Type 0 where
@@ -127,19 +116,15 @@ pub record IsNamedVisit (may : Answer → Type 0) (kind : FileKind) (v : Visit) 
   pub looked : may (Looked v.path look)
   pub scanned : IsNamedSo may kind v.path look v.scan
 
--- the outcome for a file that is added: what is met at its path, under the name that the path ends in
-pub record IsAddedScan (may : Answer → Type 0) (path : Text) (scan : Scan) : Type 0 where
-  pub at_file : scan.spot ≡ spot.File
-  pub it : Met
-  pub alone : scan.sights.items ≡ record { name = name_at path; path = path; met = it } ∷ []
-  pub met_so : IsFileMet may path it
-
--- a visit of a file that is added: it is of the kind that its path shows, has the rank of the first folder, and is not named
+-- a visit of a file that is added: it is of the kind that its path shows, has the rank of the first folder, is not named, and is met
+-- under the name that its path ends in
 pub record IsAddedVisit (may : Answer → Type 0) (v : Visit) : Type 0 where
   pub kind_is : v.kind ≡ kind_added v.path
   pub rank_is : v.rank ≡ 0
   pub unnamed : v.is_named ≡ false
-  pub scan : IsAddedScan may v.path v.scan
+  pub it : Met
+  pub met_so : IsFileMet may v.path it
+  pub scan : IsOneFile (name_at v.path) v.path it v.scan
 
 -- a visit as a place: the kind of the files, the rank and the path
 abbrev pub place_of_visit : Visit → Place
@@ -160,18 +145,14 @@ pub record AreFolderVisits (may : Answer → Type 0) (places : List Place) (visi
   pub placed_so : map place_of_visit visits ≡ places
   pub each : All (IsFolderVisit may) visits
 
--- visits of what is wanted and not named: of what is added, and then of the folders, inside their root
-pub record AreUnnamedVisits (may : Answer → Type 0) (w : Wanted) (visits : List Visit) : Type 0 where
+-- visits of all that a line asks for: of what is named, then of what is added, and then of the folders, inside their root
+pub record AreVisits (may : Answer → Type 0) (line : Line) (visits : List Visit) : Type 0 where
+  pub wanted : Wanted
+  pub wants : Wants line wanted
+  pub named : List Visit
   pub added : List Visit
   pub found : List Visit
-  pub cut : visits ≡ added ++ found
-  pub are_added : AreAddedVisits may (map (λ f. f.now) w.added.now) added
-  pub are_found : AreFolderVisits (MayInside may w.root.now) (map place_of w.folders.items) found
-
--- visits of all that is wanted: of what is named, and then of the rest
-pub record AreVisits (may : Answer → Type 0) (w : Wanted) (visits : List Visit) : Type 0 where
-  pub named : List Visit
-  pub unnamed : List Visit
-  pub cut : visits ≡ named ++ unnamed
-  pub are_named : AreNamedVisits may w.kind (map (λ f. f.now) w.files.now) named
-  pub are_unnamed : AreUnnamedVisits may w unnamed
+  pub cut : visits ≡ (named ++ added) ++ found
+  pub are_named : AreNamedVisits may wanted.kind (map (λ f. f.now) wanted.files.now) named
+  pub are_added : AreAddedVisits may (map (λ f. f.now) wanted.added.now) added
+  pub are_found : AreFolderVisits (MayInside may wanted.root.now) (map place_of wanted.folders.items) found

@@ -2,49 +2,20 @@
 ghost use Rattle.std.specs.List.{list_any};
 ghost use Rattle.std.specs.Option.{option_to_list};
 ghost use Rattle.std.specs.Prelude.{◌≡◌, IfOk, option_map};
-ghost use Rattle.devdry_folders.specs.Advice.{IsAdvice, advice_by, advice_in, if_about, is_folder, is_named_folder, reason_among, reason_at, reason_in};
-ghost use Rattle.devdry_folders.specs.Advice.{reason_in_visits, reason_met, reason_of_visit};
-ghost use Rattle.devdry_folders.specs.Unread.{advice_lines};
+ghost use Rattle.devdry_folders.specs.Advice.{IsAdvice, advice_by, advice_in, if_about, is_named_folder, reason_among, reason_in, reason_in_visits};
 
 use crate::reading::survey_for;
 use crate::reasons::{Reason, push_advice};
-use crate::sights::{Met, Sight, Spot, Survey, Visit};
+use crate::sights::{Sight, Spot, Survey, Visit};
 use devdry_files::Disk;
 use engine_sessions::Line;
 use std::alloc::{AllocError, Global};
-
-/// Why what is met can't be read, if it can't.
-fn reason_met(met: &Met) -> Option<&Reason>
-    ensures { option_map (λ reason. reason.now) result ≡ reason_met met.now }
-{
-    match met {
-        Met::Unread(reason) => Some(reason),
-        _ => None,
-    }
-}
-
-/// Why what is at the path of a folder can't be read, if it can't.
-fn reason_at(spot: &Spot) -> Option<&Reason>
-    ensures { option_map (λ reason. reason.now) result ≡ reason_at spot.now }
-{
-    match spot {
-        Spot::Unread(reason) => Some(reason),
-        _ => None,
-    }
-}
-
-/// Whether a folder was listed.
-fn is_folder(spot: &Spot) -> bool
-    ensures { result ≡ is_folder spot.now }
-{
-    matches!(spot, Spot::Folder)
-}
 
 /// Whether a path is that of a folder which is named as a file.
 fn is_named_folder(path: &[u8], visit: &Visit) -> bool
     ensures { result ≡ is_named_folder path.now visit.now }
 {
-    visit.is_named && is_folder(&visit.scan.spot) && visit.path.as_slice() == path
+    visit.is_named && matches!(visit.scan.spot, Spot::Folder) && visit.path.as_slice() == path
 }
 
 /// Whether a path is that of a folder which one of these visits is of, and which is named as a file.
@@ -59,7 +30,7 @@ fn reason_among<'a>(path: &[u8], sights: &'a [Sight]) -> Option<&'a Reason>
     ensures { option_map (λ reason. reason.now) result ≡ reason_among path.now sights.now }
 {
     for sight in sights {
-        if let Some(reason) = if_about(path, sight.path.as_slice(), reason_met(&sight.met)) {
+        if let Some(reason) = if_about(path, sight.path.as_slice(), sight.met.reason()) {
             return Some(reason);
         }
     }
@@ -73,22 +44,13 @@ fn if_about<'a>(path: &[u8], at: &[u8], reason: Option<&'a Reason>) -> Option<&'
     if at == path { reason } else { None }
 }
 
-/// The same by a visit: of the folder, and then of what is in it.
-fn reason_of_visit<'a>(path: &[u8], visit: &'a Visit) -> Option<&'a Reason>
-    ensures { option_map (λ reason. reason.now) result ≡ reason_of_visit path.now visit.now }
-{
-    match if_about(path, visit.path.as_slice(), reason_at(&visit.scan.spot)) {
-        Some(reason) => Some(reason),
-        None => reason_among(path, &visit.scan.sights),
-    }
-}
-
-/// The same by the first of some visits.
+/// The same by the first of some visits: of the folder, and then of what is in it.
 fn reason_in_visits<'a>(path: &[u8], visits: &'a [Visit]) -> Option<&'a Reason>
     ensures { option_map (λ reason. reason.now) result ≡ reason_in_visits path.now visits.now }
 {
     for visit in visits {
-        if let Some(reason) = reason_of_visit(path, visit) {
+        let of_folder = if_about(path, visit.path.as_slice(), visit.scan.spot.reason());
+        if let Some(reason) = of_folder.or(reason_among(path, &visit.scan.sights)) {
             return Some(reason);
         }
     }
@@ -100,7 +62,7 @@ fn reason_of_index<'a>(path: &[u8], index: &'a Option<Sight>) -> Option<&'a Reas
     ensures { option_map (λ reason. reason.now) result ≡ reason_among path.now (option_to_list index.now) }
 {
     match index {
-        Some(sight) => if_about(path, sight.path.as_slice(), reason_met(&sight.met)),
+        Some(sight) => if_about(path, sight.path.as_slice(), sight.met.reason()),
         None => None,
     }
 }
@@ -115,25 +77,18 @@ fn reason_in<'a>(path: &[u8], survey: &'a Survey) -> Option<&'a Reason>
     }
 }
 
-/// What people are told about a reason.
-fn advice_of(alloc: Global, reason: &Reason) -> Result<Vec<u8>, AllocError>
-    ensures { IfOk result (λ advice. advice.items ≡ advice_lines reason.now) }
-{
-    let mut advice = Vec::new(alloc);
-    push_advice(alloc, &mut advice, reason)?;
-    Ok(advice)
-}
-
 /// What people are told about a reason, if there is one; without one, what they are told about a folder that is no file, if it
 /// is one.
 fn advice_by(alloc: Global, reason: Option<&Reason>, is_folder: bool) -> Result<Vec<u8>, AllocError>
     ensures { IfOk result (λ advice. advice.items ≡ advice_by (option_map (λ reason. reason.now) reason.entry) is_folder) }
 {
+    let mut advice = Vec::new(alloc);
     match reason {
-        Some(reason) => advice_of(alloc, reason),
-        None if is_folder => advice_of(alloc, &Reason::NotRegular),
-        None => Ok(Vec::new(alloc)),
+        Some(reason) => push_advice(alloc, &mut advice, reason)?,
+        None if is_folder => push_advice(alloc, &mut advice, &Reason::NotRegular)?,
+        None => {}
     }
+    Ok(advice)
 }
 
 /// What people are told about a path, by a survey.
@@ -154,6 +109,6 @@ pub fn advice_at<D: Disk>(
 ) -> Result<Vec<u8>, AllocError>
     ensures { IfOk result (λ advice. IsAdvice (D.may_answer disk.now) line.now path.now advice.items) }
 {
-    let survey = survey_for(alloc, disk, line)?;
+    let survey = survey_for(alloc, disk, line, line.index)?;
     advice_in(alloc, path.as_bytes(), &survey)
 }

@@ -1,12 +1,11 @@
 //! Files that are where none is read: below `/lib`, if that is not a symlink, as it mostly is to `/usr/lib`.
-ghost use Rattle.std.specs.Prelude.{◌≡◌, ◌++◌, ◌⊎◌, [], IfErr, IfOk, codes, filter, is_some};
-ghost use Rattle.engine_sessions.specs.Kinds.{reads_folders_of};
-ghost use Rattle.devdry_files.specs.Answers.Answer.{Listing, NoListing, Stepped};
+ghost use Rattle.std.specs.Prelude.{◌≡◌, IfErr, IfOk};
+ghost use Rattle.devdry_files.specs.Answers.Answer.{NoListing};
 ghost use Rattle.devdry_files.specs.declared.disk.DiskFault.TheVariants as faults;
-ghost use Rattle.devdry_folders.specs.Meetings.{target_of};
-ghost use Rattle.devdry_folders.specs.Nothing.{AreElsewhere, AreElsewhereOf, IsCounted, IsElsewhere, unmerged_folder};
+ghost use Rattle.devdry_folders.specs.Nothing.{AreElsewhere, AreElsewhereOf, AreEntries, IsElsewhere, unmerged_folder};
 
-use devdry_files::{Disk, DiskFault, Entry, Step, counts};
+use crate::meetings::link_at;
+use devdry_files::{Disk, DiskFault, Entry, counts};
 use engine_sessions::Line;
 use std::alloc::{AllocError, Global};
 use text_bytes::{Bytes, FileKind};
@@ -33,11 +32,12 @@ fn unmerged_folder(kind: FileKind) -> &'static str
 }
 
 /// The entries of the folder at a path, and none if it can't be listed.
-fn entries_at<D: Disk>(alloc: Global, disk: &D, path: &str) -> Result<Vec<Entry>, AllocError>
-    ensures entries { IfOk result (λ entries. D.may_answer disk.now (Listing path.now entries.items)
-        ⊎ ((entries.items ≡ []) × (D.may_answer disk.now (NoListing path.now faults.Absent)
-        ⊎ (D.may_answer disk.now (NoListing path.now faults.Unreadable)
-        ⊎ D.may_answer disk.now (NoListing path.now faults.NotUtf8))))) }
+pub(crate) fn entries_at<D: Disk>(
+    alloc: Global,
+    disk: &D,
+    path: &str,
+) -> Result<Vec<Entry>, AllocError>
+    ensures entries { IfOk result (λ entries. AreEntries (D.may_answer disk.now) path.now entries.items) }
     ensures memory { IfErr result (λ _. D.may_answer disk.now (NoListing path.now faults.OutOfMemory)) }
 {
     match disk.list(alloc, path) {
@@ -45,19 +45,6 @@ fn entries_at<D: Disk>(alloc: Global, disk: &D, path: &str) -> Result<Vec<Entry>
         Err(DiskFault::Absent | DiskFault::Unreadable | DiskFault::NotUtf8) => Ok(Vec::new(alloc)),
         Err(DiskFault::OutOfMemory) => Err(AllocError),
     }
-}
-
-/// How many files of a kind are in the folder at a path.
-fn count_at<D: Disk>(
-    alloc: Global,
-    disk: &D,
-    kind: FileKind,
-    path: &str,
-) -> Result<usize, AllocError>
-    ensures { IfOk result (IsCounted (D.may_answer disk.now) kind path.now) }
-{
-    let entries = entries_at(alloc, disk, path)?;
-    Ok(entries.iter().filter(|entry| counts(kind, entry)).count())
 }
 
 /// The files of a kind that are elsewhere, after a root.
@@ -72,26 +59,12 @@ fn elsewhere_of<D: Disk>(
 {
     let mut path = String::from_str(alloc, root)?;
     path.push_str(unmerged_folder(kind))?;
+    let entries = entries_at(alloc, disk, path.as_str())?;
     Ok(Elsewhere {
         kind,
-        count: count_at(alloc, disk, kind, path.as_str())?,
+        count: entries.iter().filter(|entry| counts(kind, entry)).count(),
         path: Bytes::copy_of(alloc, path.as_bytes())?,
     })
-}
-
-/// Those of these kinds that a line reads from folders.
-fn kinds_in_folders(
-    alloc: Global,
-    line: &Line<'_>,
-    kinds: &[FileKind],
-) -> Result<Vec<FileKind>, AllocError>
-    ensures { IfOk result (λ found. found.items ≡ filter (reads_folders_of line.now) kinds.now) }
-{
-    kinds
-        .iter()
-        .copied()
-        .filter(|kind| line.reads_folders_of(*kind))
-        .collect(alloc)
 }
 
 /// The files of kinds that are elsewhere, after a root.
@@ -111,22 +84,6 @@ fn elsewhere_of_kinds<D: Disk>(
     Ok(others)
 }
 
-/// Whether what a step shows is a symlink.
-fn is_link(step: &Step) -> bool
-    ensures { result ≡ is_some (target_of step.now) }
-{
-    matches!(step, Step::Link(_) | Step::OddLink)
-}
-
-/// What is at `/lib` after a root, with no symlink followed there.
-fn step_to_lib<D: Disk>(alloc: Global, disk: &D, root: &str) -> Result<Step, AllocError>
-    ensures { IfOk result (λ step. D.may_answer disk.now (Stepped (root.now ++ codes "/lib") step)) }
-{
-    let mut path = String::from_str(alloc, root)?;
-    path.push_str("/lib")?;
-    disk.step(alloc, path.as_str())
-}
-
 /// The files that are elsewhere, for each of these kinds that the line reads from folders; none if `/lib` is a symlink, since
 /// the files below it are those of the folder that it leads to.
 pub(crate) fn files_elsewhere<D: Disk>(
@@ -137,9 +94,15 @@ pub(crate) fn files_elsewhere<D: Disk>(
 ) -> Result<Vec<Elsewhere>, AllocError>
     ensures { IfOk result (λ others. AreElsewhere (D.may_answer disk.now) line.now kinds.now others.items) }
 {
-    if is_link(&step_to_lib(alloc, disk, line.root)?) {
+    let mut lib = String::from_str(alloc, line.root)?;
+    lib.push_str("/lib")?;
+    if link_at(alloc, disk, lib.as_str())?.is_some() {
         return Ok(Vec::new(alloc));
     }
-    let kinds = kinds_in_folders(alloc, line, kinds)?;
+    let kinds: Vec<FileKind> = kinds
+        .iter()
+        .copied()
+        .filter(|kind| line.reads_folders_of(*kind))
+        .collect(alloc)?;
     elsewhere_of_kinds(alloc, disk, line.root, &kinds)
 }

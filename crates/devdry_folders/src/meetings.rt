@@ -1,6 +1,6 @@
 //! What is met at the path of a file.
 ghost use Rattle.std.specs.Prelude.{◌≡◌, IfOk};
-ghost use Rattle.devdry_folders.specs.Meetings.{IsFileMet, IsMet, IsMetBy, IsMissing, IsReadSo, as_file, target_of};
+ghost use Rattle.devdry_folders.specs.Meetings.{IsFileMet, IsLinkAt, IsMet, IsMetBy, IsReadSo, absence};
 
 use crate::reasons::Reason;
 use crate::sights::Met;
@@ -21,25 +21,28 @@ fn read_at<D: Disk>(alloc: Global, disk: &D, path: &str) -> Result<Met, AllocErr
     }
 }
 
-/// Where the symlink that a step shows leads, as it is written, or `?` if that is not UTF-8.
-pub(crate) fn target_of(alloc: Global, step: Step) -> Result<Option<Bytes>, AllocError>
-    ensures { IfOk result (λ target. target ≡ target_of step) }
+/// Where the symlink at a path leads, as it is written, or `?` if that is not UTF-8; nothing if there is none.
+pub(crate) fn link_at<D: Disk>(
+    alloc: Global,
+    disk: &D,
+    path: &str,
+) -> Result<Option<Bytes>, AllocError>
+    ensures { IfOk result (IsLinkAt (D.may_answer disk.now) path.now) }
 {
-    match step {
+    match disk.step(alloc, path)? {
         Step::Link(target) => Ok(Some(Bytes::new(target.into_bytes()))),
         Step::OddLink => Ok(Some(Bytes::copy_of(alloc, b"?")?)),
         Step::Folder | Step::File(_) | Step::NoWay(_) => Ok(None),
     }
 }
 
-/// What is met at a path if nothing is there, or a symlink to nothing.
-fn missing_at<D: Disk>(alloc: Global, disk: &D, path: &str) -> Result<Met, AllocError>
-    ensures { IfOk result (IsMissing (D.may_answer disk.now) path.now) }
+/// Why nothing is at a path, by the target of the symlink there, if there is one.
+fn absence(link: Option<Bytes>) -> Reason
+    ensures { result ≡ absence link }
 {
-    let step = disk.step(alloc, path)?;
-    match target_of(alloc, step)? {
-        Some(target) => Ok(Met::Unread(Reason::LinkToNothing(target))),
-        None => Ok(Met::Unread(Reason::Absent)),
+    match link {
+        Some(target) => Reason::LinkToNothing(target),
+        None => Reason::Absent,
     }
 }
 
@@ -53,7 +56,7 @@ pub(crate) fn met_by<D: Disk>(
     ensures { IfOk result (IsMetBy (D.may_answer disk.now) path.now look) }
 {
     match look {
-        Look::Absent => missing_at(alloc, disk, path),
+        Look::Absent => Ok(Met::Unread(absence(link_at(alloc, disk, path)?))),
         Look::Folder => Ok(Met::Folder),
         Look::File => read_at(alloc, disk, path),
         Look::Forbidden => Ok(Met::Unread(Reason::Forbidden)),
@@ -70,19 +73,13 @@ pub(crate) fn met_at<D: Disk>(alloc: Global, disk: &D, path: &str) -> Result<Met
     met_by(alloc, disk, path, look)
 }
 
-/// What is met where only a file is taken: a folder there can't be read.
-fn as_file(met: Met) -> Met
-    ensures { result ≡ as_file met }
-{
-    match met {
-        Met::Folder => Met::Unread(Reason::NotRegular),
-        Met::File(_) | Met::OtherName | Met::Unread(_) => met,
-    }
-}
-
-/// What is met at a path where only a file is taken.
+/// What is met at a path where only a file is taken: a folder there can't be read.
 pub(crate) fn file_met_at<D: Disk>(alloc: Global, disk: &D, path: &str) -> Result<Met, AllocError>
     ensures { IfOk result (IsFileMet (D.may_answer disk.now) path.now) }
 {
-    Ok(as_file(met_at(alloc, disk, path)?))
+    let met = met_at(alloc, disk, path)?;
+    match met {
+        Met::Folder => Ok(Met::Unread(Reason::NotRegular)),
+        Met::File(_) | Met::OtherName | Met::Unread(_) => Ok(met),
+    }
 }

@@ -1,13 +1,11 @@
 //! What is reported where no file was found that a run needs.
-ghost use Rattle.std.specs.Prelude.{◌≡◌, IfOk, MatchBool};
-ghost use Rattle.std.specs.List.{list_any};
-ghost use Rattle.engine_sessions.specs.Kinds.{reads_folders_of};
-ghost use Rattle.devdry_folders.specs.Missing.{AreMissing, IsLineOnRoot, IsNothing, has_needed, has_own_files, looks_at_root, root_line};
+ghost use Rattle.std.specs.Prelude.{◌≡◌, IfOk};
+ghost use Rattle.devdry_folders.specs.Missing.{AreMissing, IsLineOnRoot, has_needed, looks_at_root, root_line};
 
 use crate::elsewhere::files_elsewhere;
 use crate::indexes::is_index_read;
 use crate::nothing::{nothing_lines, push_line};
-use crate::sights::{Survey, Visit};
+use crate::sights::Survey;
 use crate::unread::{has_files, is_one_of};
 use devdry_files::{Disk, Look, RootedDisk};
 use engine_sessions::Line;
@@ -22,26 +20,14 @@ fn has_needed(kinds: &[FileKind], survey: &Survey) -> bool
         || (is_one_of(kinds, FileKind::Hwdb) && is_index_read(&survey.index))
 }
 
-/// Whether a line names or adds files.
-fn has_own_files(line: &Line<'_>) -> bool
-    ensures { result ≡ has_own_files line.now }
-{
-    !line.files.is_empty() || !line.added.is_empty()
-}
-
-/// Whether a line reads the folders of one of these kinds.
-fn reads_one_of(line: &Line<'_>, kinds: &[FileKind]) -> bool
-    ensures { result ≡ list_any (reads_folders_of line.now) kinds.now }
-{
-    kinds.iter().any(|kind| line.reads_folders_of(*kind))
-}
-
 /// Whether folders are read below a root that a line gives, beside files that it names or adds: then a root that is no folder
 /// is not noticed by what is missing.
 fn looks_at_root(line: &Line<'_>) -> bool
     ensures { result ≡ looks_at_root line.now }
 {
-    !line.root.is_empty() && has_own_files(line) && reads_one_of(line, line.verb.kinds_read())
+    let has_own_files = !line.files.is_empty() | !line.added.is_empty();
+    let mut kinds = line.verb.kinds_read().iter();
+    !line.root.is_empty() && has_own_files && kinds.any(|kind| line.reads_folders_of(*kind))
 }
 
 /// The line on a root that is no folder, by a look at it.
@@ -74,21 +60,6 @@ pub(crate) fn line_on_root<D: Disk>(
     root_line(alloc, line.root, look)
 }
 
-/// The lines that say that no file of these kinds was read, and where they were looked for.
-fn nothing_for<D: Disk>(
-    alloc: Global,
-    disk: &D,
-    line: &Line<'_>,
-    kinds: &[FileKind],
-    visits: &[Visit],
-) -> Result<Vec<u8>, AllocError>
-    ensures { IfOk result (λ text. IsNothing (D.may_answer disk.now) line.now kinds.now visits.now text.items) }
-{
-    let inside = RootedDisk::new(disk, line.root);
-    let others = files_elsewhere(alloc, &inside, line, kinds)?;
-    nothing_lines(alloc, kinds, visits, &others)
-}
-
 /// What is reported if no file of these kinds was read, or if folders are read below a root that is no folder; nothing
 /// otherwise.
 pub(crate) fn missing_lines<D: Disk>(
@@ -101,8 +72,9 @@ pub(crate) fn missing_lines<D: Disk>(
     ensures { IfOk result (λ text. AreMissing (D.may_answer disk.now) line.now kinds.now survey.now text.items) }
 {
     if has_needed(kinds, survey) {
-        line_on_root(alloc, disk, line)
-    } else {
-        nothing_for(alloc, disk, line, kinds, &survey.visits)
+        return line_on_root(alloc, disk, line);
     }
+    let inside = RootedDisk::new(disk, line.root);
+    let others = files_elsewhere(alloc, &inside, line, kinds)?;
+    nothing_lines(alloc, kinds, &survey.visits, &others)
 }

@@ -2,12 +2,11 @@
 //!
 //! A check of no files must not look like a successful one, so each place that was looked at is named.
 ghost use Rattle.std.specs.Prelude.{◌≡◌, ◌++◌, IfOk, OnOk, flat_map};
-ghost use Rattle.devdry_folders.specs.Nothing.{folder_line, has_unread, is_unread, line_elsewhere, line_on, files_word};
-ghost use Rattle.devdry_folders.specs.Nothing.{line_on_place, line_on_place_of, nothing_lines, why_no_file};
+ghost use Rattle.devdry_folders.specs.Nothing.{folder_line, has_unread, line_elsewhere, line_on, line_on_place, nothing_lines, why_no_file};
 
 use crate::elsewhere::Elsewhere;
 use crate::reasons::push_escaped;
-use crate::sights::{Met, Sight, Spot, Visit};
+use crate::sights::{Sight, Spot, Visit};
 use crate::unread::is_one_of;
 use itoa::Buffer;
 use std::alloc::{AllocError, Global};
@@ -28,18 +27,11 @@ pub(crate) fn push_line(
     Ok(())
 }
 
-/// Whether what was met can't be read.
-fn is_unread(met: &Met) -> bool
-    ensures { result ≡ is_unread met.now }
-{
-    matches!(met, Met::Unread(_))
-}
-
 /// Whether one of the sights can't be read.
 fn has_unread(sights: &[Sight]) -> bool
     ensures { result ≡ has_unread sights.now }
 {
-    sights.iter().any(|sight| is_unread(&sight.met))
+    sights.iter().any(|sight| sight.met.reason().is_some())
 }
 
 /// Why a folder gave no file.
@@ -72,10 +64,18 @@ fn push_listed(
     push_line(alloc, lines, path, &why_no_file(alloc, kind, sights)?)
 }
 
-/// Adds the line on a place that was looked at.
-fn push_folder(alloc: Global, lines: &mut Vec<u8>, visit: &Visit) -> Result<(), AllocError>
-    ensures { OnOk result (lines.new.items ≡ lines.old.items ++ line_on_place visit.now) }
+/// Adds the line on a place that was looked at, if files of one of these kinds were looked for there.
+fn push_place(
+    alloc: Global,
+    lines: &mut Vec<u8>,
+    kinds: &[FileKind],
+    visit: &Visit,
+) -> Result<(), AllocError>
+    ensures { OnOk result (lines.new.items ≡ lines.old.items ++ line_on_place kinds.now visit.now) }
 {
+    if !is_one_of(kinds, visit.kind) {
+        return Ok(());
+    }
     let path = visit.path.as_slice();
     match visit.scan.spot {
         Spot::Absent => push_line(alloc, lines, path, b": absent"),
@@ -84,40 +84,21 @@ fn push_folder(alloc: Global, lines: &mut Vec<u8>, visit: &Visit) -> Result<(), 
     }
 }
 
-/// The word after a number of files.
-fn files_word(count: usize) -> &'static [u8]
-    ensures { result.now ≡ files_word count }
-{
-    if count == 1 { b" file" } else { b" files" }
-}
-
 /// Adds the line on files that are elsewhere, if there are any.
 fn push_elsewhere(alloc: Global, lines: &mut Vec<u8>, other: &Elsewhere) -> Result<(), AllocError>
     ensures { OnOk result (lines.new.items ≡ lines.old.items ++ line_elsewhere other.now) }
 {
+    let path = other.path.as_slice();
     if other.count == 0 {
         return Ok(());
     }
+    if other.count == 1 {
+        return push_line(alloc, lines, path, b" has 1 file");
+    }
     let mut text = Vec::from_slice(alloc, b" has ")?;
     text.extend_from_slice(Buffer::new().format(other.count).as_bytes())?;
-    text.extend_from_slice(files_word(other.count))?;
-    push_line(alloc, lines, other.path.as_slice(), &text)
-}
-
-/// Adds the line on a place, if files of one of these kinds were looked for there.
-fn push_place_of(
-    alloc: Global,
-    lines: &mut Vec<u8>,
-    kinds: &[FileKind],
-    visit: &Visit,
-) -> Result<(), AllocError>
-    ensures { OnOk result (lines.new.items ≡ lines.old.items ++ line_on_place_of kinds.now visit.now) }
-{
-    if is_one_of(kinds, visit.kind) {
-        push_folder(alloc, lines, visit)
-    } else {
-        Ok(())
-    }
+    text.extend_from_slice(b" files")?;
+    push_line(alloc, lines, path, &text)
 }
 
 /// Adds the lines on all places where files of these kinds were looked for.
@@ -127,10 +108,10 @@ fn push_places(
     kinds: &[FileKind],
     visits: &[Visit],
 ) -> Result<(), AllocError>
-    ensures { OnOk result (lines.new.items ≡ lines.old.items ++ flat_map (line_on_place_of kinds.now) visits.now) }
+    ensures { OnOk result (lines.new.items ≡ lines.old.items ++ flat_map (line_on_place kinds.now) visits.now) }
 {
     for visit in visits {
-        push_place_of(alloc, lines, kinds, visit)?;
+        push_place(alloc, lines, kinds, visit)?;
     }
     Ok(())
 }

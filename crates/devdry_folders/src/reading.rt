@@ -1,20 +1,18 @@
 //! The outcome of a line whose reading goes on after what can't be read.
-ghost use Rattle.std.specs.Option.{option_to_list};
+ghost use Rattle.std.specs.Option.{option_copied};
 ghost use Rattle.std.specs.Prelude.{◌≡◌, ◌≤◌, IfOk};
-ghost use Rattle.devdry_folders.specs.Surveys.{AreFilesReadSome, AreVisitsFor, IsFilesSurveyFor, IsListed, IsReadBy, IsReadSome, IsReportOn};
-ghost use Rattle.devdry_folders.specs.Surveys.{IsReportOnFiles, IsReported, IsRootReport, IsSurveyFor};
-ghost use Rattle.devdry_folders.specs.Surveys.{all_unread, has_file_needed, kinds_needed};
+ghost use Rattle.devdry_folders.specs.Surveys.{AreFilesReadSome, IsListed, IsReadBy, IsReadSome, IsReportOnFiles, IsReported, IsSurveyFor};
 ghost use Rattle.devdry_folders.specs.Unread.{least_status};
 
 use crate::files::files_of;
-use crate::indexes::{index_bytes, index_sight, push_on_index};
+use crate::indexes::{index_bytes, index_sight};
 use crate::missing::{line_on_root, missing_lines};
 use crate::sight_status::status_lines;
-use crate::sights::{Survey, Visit};
-use crate::unread::{is_one_of, unread_lines};
+use crate::sights::Survey;
+use crate::unread::all_unread;
 use crate::visiting::visits;
-use devdry_files::{Disk, wanted};
-use engine_sessions::{Line, Verb};
+use devdry_files::Disk;
+use engine_sessions::{Line, same_kind};
 use std::alloc::{AllocError, Global};
 use text_bytes::{Bytes, FileKind, SourceFile};
 
@@ -47,35 +45,18 @@ pub struct Listed {
     pub report: Report,
 }
 
-/// Visits of all that a line asks for.
-fn visits_for<D: Disk>(alloc: Global, disk: &D, line: &Line<'_>) -> Result<Vec<Visit>, AllocError>
-    ensures { IfOk result (λ visits. AreVisitsFor (D.may_answer disk.now) line.now visits.items) }
-{
-    let wanted = wanted(alloc, line)?;
-    visits(alloc, disk, &wanted)
-}
-
-/// A survey of all that a line asks for; the index is looked at last.
+/// A survey of the files and folders that a line asks for, and last of this index, if there is one.
 pub(crate) fn survey_for<D: Disk>(
     alloc: Global,
     disk: &D,
     line: &Line<'_>,
+    index: Option<&str>,
 ) -> Result<Survey, AllocError>
-    ensures { IfOk result (IsSurveyFor (D.may_answer disk.now) line.now) }
+    ensures { IfOk result (IsSurveyFor (D.may_answer disk.now) line.now (option_copied index.entry)) }
 {
     Ok(Survey {
-        visits: visits_for(alloc, disk, line)?,
-        index: index_sight(alloc, disk, line)?,
-    })
-}
-
-/// A survey of all that a line asks for but an index.
-fn files_survey_for<D: Disk>(alloc: Global, disk: &D, line: &Line<'_>) -> Result<Survey, AllocError>
-    ensures { IfOk result (IsFilesSurveyFor (D.may_answer disk.now) line.now) }
-{
-    Ok(Survey {
-        visits: visits_for(alloc, disk, line)?,
-        index: None,
+        visits: visits(alloc, disk, line)?,
+        index: index_sight(alloc, disk, index)?,
     })
 }
 
@@ -92,15 +73,6 @@ pub fn least_status(unread: &[u8], missing: &[u8]) -> u8
     } else {
         1
     }
-}
-
-/// The lines on all that can't be read, for people or not.
-fn all_unread(alloc: Global, for_people: bool, survey: &Survey) -> Result<Vec<u8>, AllocError>
-    ensures { IfOk result (λ lines. lines.items ≡ all_unread for_people survey.now) }
-{
-    let mut lines = unread_lines(alloc, for_people, &survey.visits)?;
-    push_on_index(alloc, &mut lines, for_people, &survey.index)?;
-    Ok(lines)
 }
 
 /// What is reported for a survey before the run, of which files of these kinds are needed.
@@ -121,35 +93,18 @@ fn reported_for<D: Disk>(
     Ok(Report { lines, least })
 }
 
-/// The kind of the files that a line of this subcommand names.
-fn kinds_needed(verb: Verb) -> &'static [FileKind]
-    ensures { result.now ≡ kinds_needed verb }
-{
-    match verb {
-        Verb::Update | Verb::Query => &[FileKind::Hwdb],
-        Verb::Verify | Verb::Events | Verb::Mend => &[FileKind::Rules],
-    }
-}
-
-/// Whether one of the files is of a kind that a line needs.
-fn has_file_needed(line: &Line<'_>, files: &[SourceFile]) -> bool
-    ensures { result ≡ has_file_needed line.now files.now }
-{
-    let kinds = kinds_needed(line.verb);
-    files.iter().any(|file| is_one_of(kinds, file.kind))
-}
-
-/// What was read by a survey, and what is reported for it.
-fn read_by<D: Disk>(
+/// Reads what can be read of the files and folders that a line asks for, and last of this index, if there is one.
+fn read_with<D: Disk>(
     alloc: Global,
     disk: &D,
     line: &Line<'_>,
-    survey: Survey,
+    index: Option<&str>,
 ) -> Result<ReadSome, AllocError>
-    ensures some { IfOk result (IsReadBy (D.may_answer disk.now) line.now (λ s. s ≡ survey)) }
+    ensures some { IfOk result (IsReadBy (D.may_answer disk.now) line.now (option_copied index.entry)) }
     ensures least { IfOk result (λ some. some.report.least ≤ 3) }
 {
-    let report = reported_for(alloc, disk, line, kinds_needed(line.verb), &survey)?;
+    let survey = survey_for(alloc, disk, line, index)?;
+    let report = reported_for(alloc, disk, line, &[line.verb.kind_named()], &survey)?;
     let Survey { visits, index } = survey;
     Ok(ReadSome {
         files: files_of(alloc, visits)?,
@@ -175,8 +130,7 @@ pub fn read_what_can<D: Disk>(
     ensures some { IfOk result (IsReadSome (D.may_answer disk.now) line.now) }
     ensures least { IfOk result (λ some. some.report.least ≤ 3) }
 {
-    let survey = survey_for(alloc, disk, line)?;
-    read_by(alloc, disk, line, survey)
+    read_with(alloc, disk, line, line.index)
 }
 
 /// Reads what can be read of all that a line asks for but an index, as `read_what_can` does.
@@ -188,8 +142,7 @@ pub fn read_files_that_can<D: Disk>(
     ensures some { IfOk result (AreFilesReadSome (D.may_answer disk.now) line.now) }
     ensures least { IfOk result (λ some. some.report.least ≤ 3) }
 {
-    let survey = files_survey_for(alloc, disk, line)?;
-    read_by(alloc, disk, line, survey)
+    read_with(alloc, disk, line, None)
 }
 
 /// Reports which files of the folders that a line asks for count: each file is used, masks those of its name, is
@@ -199,31 +152,12 @@ pub fn list_files<D: Disk>(alloc: Global, disk: &D, line: &Line<'_>) -> Result<L
     ensures listed { IfOk result (IsListed (D.may_answer disk.now) line.now) }
     ensures least { IfOk result (λ listed. listed.report.least ≤ 3) }
 {
-    let survey = survey_for(alloc, disk, line)?;
+    let survey = survey_for(alloc, disk, line, line.index)?;
     let report = reported_for(alloc, disk, line, line.verb.kinds_read(), &survey)?;
     Ok(Listed {
         lines: status_lines(alloc, survey.visits)?,
         report,
     })
-}
-
-/// What is reported for a survey of all that a line asks for but an index.
-fn report_on<D: Disk>(alloc: Global, disk: &D, line: &Line<'_>) -> Result<Report, AllocError>
-    ensures report { IfOk result (IsReportOn (D.may_answer disk.now) line.now) }
-    ensures least { IfOk result (λ report. report.least ≤ 3) }
-{
-    let survey = files_survey_for(alloc, disk, line)?;
-    reported_for(alloc, disk, line, kinds_needed(line.verb), &survey)
-}
-
-/// What is reported on the root of a line: a line and status 1 if it is looked at and is no folder.
-fn report_on_root<D: Disk>(alloc: Global, disk: &D, line: &Line<'_>) -> Result<Report, AllocError>
-    ensures report { IfOk result (IsRootReport (D.may_answer disk.now) line.now) }
-    ensures least { IfOk result (λ report. report.least ≤ 3) }
-{
-    let lines = line_on_root(alloc, disk, line)?;
-    let least = least_status(b"", &lines);
-    Ok(Report { lines, least })
 }
 
 /// What is reported on files that were read for a line. If one of them is of the kind that the line names, that is
@@ -238,8 +172,12 @@ pub fn report_on_files<D: Disk>(
     ensures report { IfOk result (IsReportOnFiles (D.may_answer disk.now) line.now files.now) }
     ensures least { IfOk result (λ report. report.least ≤ 3) }
 {
-    if has_file_needed(line, files) {
-        return report_on_root(alloc, disk, line);
+    let kind = line.verb.kind_named();
+    if !files.iter().any(|file| same_kind(kind, file.kind)) {
+        let survey = survey_for(alloc, disk, line, None)?;
+        return reported_for(alloc, disk, line, &[kind], &survey);
     }
-    report_on(alloc, disk, line)
+    let lines = line_on_root(alloc, disk, line)?;
+    let least = least_status(b"", &lines);
+    Ok(Report { lines, least })
 }

@@ -7,7 +7,7 @@ ghost use Rattle.text_bytes.specs.Text.{Text};
 ghost use Rattle.text_bytes.specs.Escapes.{escape_text};
 ghost use Rattle.text_bytes.specs.Names.{newline};
 ghost use Rattle.text_tables.specs.Pairs.{value_of, with_value};
-ghost use Rattle.devdry_folders.specs.SightStatus.{AreByName, AreListed, counting, file_text, sight_status, sights_of, status_lines, use_text};
+ghost use Rattle.devdry_folders.specs.SightStatus.{AreByName, AreListed, counting, file_text, sight_status, sights_of, status_lines};
 ghost use Rattle.devdry_folders.specs.Unread.{is_file};
 
 use crate::reasons::{push_escaped, push_reason};
@@ -87,14 +87,7 @@ fn counting_files<'b>(
     Ok(files)
 }
 
-/// Whether a file that counts is used or masks those of its name.
-fn use_text(bytes: &[u8]) -> &'static [u8]
-    ensures { result.now ≡ use_text bytes.now }
-{
-    if bytes.is_empty() { b"masked" } else { b"used" }
-}
-
-/// Appends what is reported for a file.
+/// Appends what is reported for a file: one that counts is used, or masks those of its name if it is empty.
 fn push_file(
     alloc: Global,
     text: &mut Vec<u8>,
@@ -109,7 +102,8 @@ fn push_file(
         Some(first) if path != first.path.as_slice() => {
             push_escaped(alloc, text, b"hidden by ", first.path.as_slice())
         }
-        _ => text.extend_from_slice(use_text(bytes)),
+        _ if bytes.is_empty() => text.extend_from_slice(b"masked"),
+        _ => text.extend_from_slice(b"used"),
     }
 }
 

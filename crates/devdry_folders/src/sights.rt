@@ -1,6 +1,9 @@
 //! What is met when files are looked for.
+ghost use Rattle.std.specs.Prelude.{◌≡◌, IfOk, option_map};
+ghost use Rattle.devdry_folders.specs.Unread.{reason_at, reason_met};
 
 use crate::reasons::Reason;
+use std::alloc::{AllocError, Global};
 use text_bytes::{Bytes, FileKind};
 
 /// What is met at a name in a folder, or at the path of a named file.
@@ -16,6 +19,18 @@ pub enum Met {
     Unread(Reason),
 }
 
+impl Met {
+    /// Why what is met can't be read, if it can't.
+    pub(crate) fn reason(&self) -> Option<&Reason>
+        ensures { option_map (λ reason. reason.now) result ≡ reason_met self.now }
+    {
+        match self {
+            Met::Unread(reason) => Some(reason),
+            _ => None,
+        }
+    }
+}
+
 /// A name, its path, and what is met there.
 #[derive(Drop)]
 pub struct Sight {
@@ -25,6 +40,19 @@ pub struct Sight {
     pub path: Bytes,
     /// What is met there.
     pub met: Met,
+}
+
+impl Sight {
+    /// What is met at a path, under a name.
+    pub(crate) fn new(alloc: Global, name: &[u8], path: &str, met: Met) -> Result<Sight, AllocError>
+        ensures { IfOk result (λ s. s ≡ record { name = name.now; path = path.now; met = met }) }
+    {
+        Ok(Sight {
+            name: Bytes::copy_of(alloc, name)?,
+            path: Bytes::copy_of(alloc, path.as_bytes())?,
+            met,
+        })
+    }
 }
 
 /// What is at the path of a folder that is wanted, or of a named file.
@@ -38,6 +66,18 @@ pub enum Spot {
     File,
     /// A folder that can't be listed, or what is there instead, and the reason.
     Unread(Reason),
+}
+
+impl Spot {
+    /// Why what is at the path of a folder can't be read, if it can't.
+    pub(crate) fn reason(&self) -> Option<&Reason>
+        ensures { option_map (λ reason. reason.now) result ≡ reason_at self.now }
+    {
+        match self {
+            Spot::Unread(reason) => Some(reason),
+            _ => None,
+        }
+    }
 }
 
 /// What is at a path, and what is met in it.

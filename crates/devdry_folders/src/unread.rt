@@ -1,10 +1,10 @@
 //! What is reported for what can't be read.
-ghost use Rattle.std.specs.Prelude.{◌≡◌, ◌++◌, IfOk, OnOk, flat_map};
-ghost use Rattle.devdry_folders.specs.Unread.{has_file, has_files, is_file, is_one_of, line_on_met, line_on_spot, lines_on_scan};
-ghost use Rattle.devdry_folders.specs.Unread.{unread_line, unread_lines, unread_said};
+ghost use Rattle.std.specs.Prelude.{◌≡◌, ◌++◌, IfOk, OnOk, option_map};
+ghost use Rattle.devdry_folders.specs.Unread.{all_unread, has_file, has_files, is_file, is_one_of, lines_on_scan, said_by};
+ghost use Rattle.devdry_folders.specs.Unread.{unread_line};
 
 use crate::reasons::{Reason, push_advice, push_escaped, push_reason};
-use crate::sights::{Met, Scan, Sight, Spot, Visit};
+use crate::sights::{Met, Scan, Sight, Survey, Visit};
 use engine_sessions::same_kind;
 use std::alloc::{AllocError, Global};
 use text_bytes::FileKind;
@@ -25,53 +25,25 @@ fn push_unread_line(
     Ok(())
 }
 
-/// Adds what is said about what can't be read, for people or not.
+/// Adds what is said about a path, for people or not, if there is a reason why it can't be read.
 fn push_unread(
     alloc: Global,
     lines: &mut Vec<u8>,
     for_people: bool,
     path: &[u8],
-    reason: &Reason,
+    reason: Option<&Reason>,
 ) -> Result<(), AllocError>
-    ensures { OnOk result (lines.new.items ≡ lines.old.items ++ unread_said for_people path.now reason.now) }
+    ensures { OnOk result (lines.new.items ≡ lines.old.items
+        ++ said_by for_people path.now (option_map (λ reason. reason.now) reason.entry)) }
 {
+    let Some(reason) = reason else {
+        return Ok(());
+    };
     push_unread_line(alloc, lines, path, reason)?;
     if for_people {
         push_advice(alloc, lines, reason)?;
     }
     Ok(())
-}
-
-/// Adds the lines on what is met at a path, if it can't be read.
-pub(crate) fn push_on_met(
-    alloc: Global,
-    lines: &mut Vec<u8>,
-    for_people: bool,
-    path: &[u8],
-    met: &Met,
-) -> Result<(), AllocError>
-    ensures { OnOk result (lines.new.items ≡ lines.old.items ++ line_on_met for_people path.now met.now) }
-{
-    match met {
-        Met::Unread(reason) => push_unread(alloc, lines, for_people, path, reason),
-        _ => Ok(()),
-    }
-}
-
-/// Adds the lines on what is at a path, if it can't be listed.
-fn push_on_spot(
-    alloc: Global,
-    lines: &mut Vec<u8>,
-    for_people: bool,
-    path: &[u8],
-    spot: &Spot,
-) -> Result<(), AllocError>
-    ensures { OnOk result (lines.new.items ≡ lines.old.items ++ line_on_spot for_people path.now spot.now) }
-{
-    match spot {
-        Spot::Unread(reason) => push_unread(alloc, lines, for_people, path, reason),
-        _ => Ok(()),
-    }
 }
 
 /// Adds the lines on what was met at the path of a folder, if it, or what is in it, can't be read:
@@ -85,23 +57,24 @@ pub fn push_on_scan(
 ) -> Result<(), AllocError>
     ensures { OnOk result (lines.new.items ≡ lines.old.items ++ lines_on_scan for_people path.now scan.now) }
 {
-    push_on_spot(alloc, lines, for_people, path, &scan.spot)?;
+    push_unread(alloc, lines, for_people, path, scan.spot.reason())?;
     for sight in &scan.sights {
-        push_on_met(alloc, lines, for_people, sight.path.as_slice(), &sight.met)?;
+        let path = sight.path.as_slice();
+        push_unread(alloc, lines, for_people, path, sight.met.reason())?;
     }
     Ok(())
 }
 
-/// The lines on all that can't be read, in the order of the visits.
-pub(crate) fn unread_lines(
+/// The lines on all that can't be read, for people or not, in the order of the visits, those on the index last.
+pub(crate) fn all_unread(
     alloc: Global,
     for_people: bool,
-    visits: &[Visit],
+    survey: &Survey,
 ) -> Result<Vec<u8>, AllocError>
-    ensures { IfOk result (λ lines. lines.items ≡ unread_lines for_people visits.now) }
+    ensures { IfOk result (λ lines. lines.items ≡ all_unread for_people survey.now) }
 {
     let mut lines = Vec::new(alloc);
-    for visit in visits {
+    for visit in &survey.visits {
         push_on_scan(
             alloc,
             &mut lines,
@@ -109,6 +82,10 @@ pub(crate) fn unread_lines(
             visit.path.as_slice(),
             &visit.scan,
         )?;
+    }
+    if let Some(sight) = &survey.index {
+        let index = sight.path.as_slice();
+        push_unread(alloc, &mut lines, for_people, index, sight.met.reason())?;
     }
     Ok(lines)
 }

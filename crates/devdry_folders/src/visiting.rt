@@ -1,19 +1,16 @@
 //! Visits what a line asks for, one file or folder after another, whatever the outcome.
-ghost use Rattle.std.specs.List.{ends_with};
-ghost use Rattle.std.specs.Prelude.{◌≡◌, IfOk, IsPermutation, IsSorted, false, map, nat_eq, string_bytes, true};
+ghost use Rattle.std.specs.Prelude.{◌≡◌, IfOk, IsPermutation, IsSorted, map, string_bytes};
 ghost use Rattle.std.specs.String.{string_cmp};
-ghost use Rattle.devdry_files.specs.Answers.Answer.{Listing};
 ghost use Rattle.devdry_files.specs.Places.{place_of};
-ghost use Rattle.devdry_folders.specs.Meetings.{IsMet};
-ghost use Rattle.devdry_folders.specs.Visits.{AreAddedVisits, AreFolderVisits, AreNamedVisits, AreUnnamedVisits, AreSightsAt, AreSightsIn, AreVisits};
-ghost use Rattle.devdry_folders.specs.Visits.{IsFolderScan, IsFolderVisit, IsListedSo, IsMissingFolder, IsNamedSo};
-ghost use Rattle.devdry_folders.specs.Visits.{IsAddedScan, IsAddedVisit, IsNamedVisit, IsOneFile, IsScannedBy, IsSightIn, IsUnlisted, below};
-ghost use Rattle.devdry_folders.specs.Visits.{missing_folder, place_of_visit};
+ghost use Rattle.devdry_folders.specs.Visits.{AreAddedVisits, AreFolderVisits, AreNamedVisits, AreSightsAt, AreVisits};
+ghost use Rattle.devdry_folders.specs.Visits.{IsAddedVisit, IsFolderScan, IsFolderVisit, IsListedSo, IsNamedSo, IsNamedVisit, IsOneFile, IsSightIn, IsUnlisted};
+ghost use Rattle.devdry_folders.specs.Visits.{below, missing_folder, place_of_visit};
 
-use crate::meetings::{file_met_at, met_at, met_by, target_of};
+use crate::meetings::{file_met_at, link_at, met_at, met_by};
 use crate::reasons::Reason;
 use crate::sights::{Met, Scan, Sight, Spot, Visit};
-use devdry_files::{Disk, DiskFault, Entry, Folder, Look, RootedDisk, Wanted, kind_added, name_at};
+use devdry_files::{Disk, DiskFault, Entry, Folder, Look, RootedDisk, kind_added, name_at, wanted};
+use engine_sessions::Line;
 use std::alloc::{AllocError, Global};
 use text_bytes::{Bytes, FileKind};
 
@@ -39,26 +36,6 @@ fn names_of(alloc: Global, entries: Vec<Entry>) -> Result<Vec<String>, AllocErro
     Ok(names)
 }
 
-/// What is met at a name in a folder of files with a suffix.
-fn met_in<D: Disk>(
-    alloc: Global,
-    disk: &D,
-    suffix: &str,
-    name: &str,
-    path: &str,
-) -> Result<Met, AllocError>
-    ensures of_kind { IfOk result (λ it. ends_with nat_eq name.now suffix.now ≡ true
-        → IsMet (D.may_answer disk.now) path.now it) }
-    ensures of_none { IfOk result (λ it. ends_with nat_eq name.now suffix.now ≡ false
-        → it ≡ Met.OtherName) }
-{
-    if name.as_bytes().ends_with(suffix.as_bytes()) {
-        met_at(alloc, disk, path)
-    } else {
-        Ok(Met::OtherName)
-    }
-}
-
 /// The sight of a name in a folder of files with a suffix.
 fn sight_in<D: Disk>(
     alloc: Global,
@@ -71,12 +48,11 @@ fn sight_in<D: Disk>(
     ensures sight { IfOk result (IsSightIn (D.may_answer disk.now) suffix.now folder.now) }
 {
     let path = path_below(alloc, folder, name)?;
-    let met = met_in(alloc, disk, suffix, name, path.as_str())?;
-    Ok(Sight {
-        name: Bytes::copy_of(alloc, name.as_bytes())?,
-        path: Bytes::copy_of(alloc, path.as_bytes())?,
-        met,
-    })
+    if !name.as_bytes().ends_with(suffix.as_bytes()) {
+        return Sight::new(alloc, name.as_bytes(), path.as_str(), Met::OtherName);
+    }
+    let met = met_at(alloc, disk, path.as_str())?;
+    Sight::new(alloc, name.as_bytes(), path.as_str(), met)
 }
 
 /// The sights of names in a folder of files with a suffix, in their order.
@@ -95,22 +71,6 @@ fn sights_of_names<D: Disk>(
         sights.push(sight_in(alloc, disk, suffix, folder, name.as_str())?)?;
     }
     Ok(sights)
-}
-
-/// The sights in a folder with these entries.
-fn sights_in<D: Disk>(
-    alloc: Global,
-    disk: &D,
-    suffix: &str,
-    folder: &str,
-    entries: Vec<Entry>,
-) -> Result<Vec<Sight>, AllocError>
-    requires { D.may_answer disk.now (Listing folder.now entries.items) }
-    ensures { IfOk result (λ sights.
-        AreSightsIn (D.may_answer disk.now) suffix.now folder.now sights.items) }
-{
-    let names = names_of(alloc, entries)?;
-    sights_of_names(alloc, disk, suffix, folder, &names)
 }
 
 /// The scan of a path that is not listed.
@@ -133,10 +93,13 @@ fn scan_listed<D: Disk>(
     ensures { IfOk result (IsListedSo (D.may_answer disk.now) suffix.now path.now) }
 {
     match disk.list(alloc, path) {
-        Ok(entries) => Ok(Scan {
-            spot: Spot::Folder,
-            sights: sights_in(alloc, disk, suffix, path, entries)?,
-        }),
+        Ok(entries) => {
+            let names = names_of(alloc, entries)?;
+            Ok(Scan {
+                spot: Spot::Folder,
+                sights: sights_of_names(alloc, disk, suffix, path, &names)?,
+            })
+        }
         Err(DiskFault::Absent) => Ok(unlisted(alloc, Spot::Absent)),
         Err(DiskFault::Unreadable) => Ok(unlisted(alloc, Spot::Unread(Reason::Failed))),
         Err(DiskFault::NotUtf8) => Ok(unlisted(alloc, Spot::Unread(Reason::NotUtf8))),
@@ -154,34 +117,6 @@ fn missing_folder(link: Option<Bytes>) -> Spot
     }
 }
 
-/// The outcome for a folder that is wanted and not there.
-fn scan_missing<D: Disk>(alloc: Global, disk: &D, path: &str) -> Result<Scan, AllocError>
-    ensures { IfOk result (IsMissingFolder (D.may_answer disk.now) path.now) }
-{
-    let step = disk.step(alloc, path)?;
-    let link = target_of(alloc, step)?;
-    Ok(unlisted(alloc, missing_folder(link)))
-}
-
-/// The outcome for a folder that is wanted, by a look at it.
-fn scan_by<D: Disk>(
-    alloc: Global,
-    disk: &D,
-    suffix: &str,
-    path: &str,
-    look: Look,
-) -> Result<Scan, AllocError>
-    ensures { IfOk result (IsScannedBy (D.may_answer disk.now) suffix.now path.now look) }
-{
-    match look {
-        Look::Absent => scan_missing(alloc, disk, path),
-        Look::Folder => scan_listed(alloc, disk, suffix, path),
-        Look::File | Look::Other => Ok(unlisted(alloc, Spot::Unread(Reason::NotFolder))),
-        Look::Forbidden => Ok(unlisted(alloc, Spot::Unread(Reason::Forbidden))),
-        Look::Failed => Ok(unlisted(alloc, Spot::Unread(Reason::Failed))),
-    }
-}
-
 /// The outcome for a folder that is wanted, with the files in it whose names end in a suffix, sorted by name. Nothing else
 /// in it is looked at, and nothing is opened that is neither a folder nor a regular file, except the null device.
 pub fn scan_folder<D: Disk>(
@@ -192,8 +127,13 @@ pub fn scan_folder<D: Disk>(
 ) -> Result<Scan, AllocError>
     ensures { IfOk result (IsFolderScan (D.may_answer disk.now) suffix.now path.now) }
 {
-    let look = disk.look(alloc, path)?;
-    scan_by(alloc, disk, suffix, path, look)
+    match disk.look(alloc, path)? {
+        Look::Absent => Ok(unlisted(alloc, missing_folder(link_at(alloc, disk, path)?))),
+        Look::Folder => scan_listed(alloc, disk, suffix, path),
+        Look::File | Look::Other => Ok(unlisted(alloc, Spot::Unread(Reason::NotFolder))),
+        Look::Forbidden => Ok(unlisted(alloc, Spot::Unread(Reason::Forbidden))),
+        Look::Failed => Ok(unlisted(alloc, Spot::Unread(Reason::Failed))),
+    }
 }
 
 /// A visit of a folder that is wanted.
@@ -212,16 +152,12 @@ fn visit_folder<D: Disk>(alloc: Global, disk: &D, folder: &Folder) -> Result<Vis
     })
 }
 
-/// The outcome for a named file, by a look at it.
-fn scan_file<D: Disk>(alloc: Global, disk: &D, path: &str, look: Look) -> Result<Scan, AllocError>
-    ensures { IfOk result (IsOneFile (D.may_answer disk.now) path.now look) }
+/// The outcome for a file: what is met at its path, under a name.
+fn file_scan(alloc: Global, name: &[u8], path: &str, met: Met) -> Result<Scan, AllocError>
+    ensures { IfOk result (IsOneFile name.now path.now met) }
 {
     let mut sights = Vec::new(alloc);
-    sights.push(Sight {
-        met: met_by(alloc, disk, path, look)?,
-        name: Bytes::copy_of(alloc, path.as_bytes())?,
-        path: Bytes::copy_of(alloc, path.as_bytes())?,
-    })?;
+    sights.push(Sight::new(alloc, name, path, met)?)?;
     Ok(Scan {
         spot: Spot::File,
         sights,
@@ -240,7 +176,10 @@ fn scan_named<D: Disk>(
 {
     match look {
         Look::Folder => scan_listed(alloc, disk, kind.suffix(), path),
-        _ => scan_file(alloc, disk, path, look),
+        _ => {
+            let met = met_by(alloc, disk, path, look)?;
+            file_scan(alloc, path.as_bytes(), path, met)
+        }
     }
 }
 
@@ -282,28 +221,13 @@ fn named_visits<D: Disk>(
     Ok(visits)
 }
 
-/// The outcome for an added file: what is met at its path, under the name that the path ends in.
-fn scan_added<D: Disk>(alloc: Global, disk: &D, path: &str) -> Result<Scan, AllocError>
-    ensures { IfOk result (IsAddedScan (D.may_answer disk.now) path.now) }
-{
-    let mut sights = Vec::new(alloc);
-    sights.push(Sight {
-        met: file_met_at(alloc, disk, path)?,
-        name: Bytes::copy_of(alloc, name_at(path))?,
-        path: Bytes::copy_of(alloc, path.as_bytes())?,
-    })?;
-    Ok(Scan {
-        spot: Spot::File,
-        sights,
-    })
-}
-
-/// A visit of an added file.
+/// A visit of an added file: what is met at its path, under the name that the path ends in.
 fn visit_added<D: Disk>(alloc: Global, disk: &D, path: &str) -> Result<Visit, AllocError>
     ensures path { IfOk result (λ v. v.path ≡ path.now) }
     ensures visit { IfOk result (IsAddedVisit (D.may_answer disk.now)) }
 {
-    let scan = scan_added(alloc, disk, path)?;
+    let met = file_met_at(alloc, disk, path)?;
+    let scan = file_scan(alloc, name_at(path), path, met)?;
     Ok(Visit {
         kind: kind_added(path),
         rank: 0,
@@ -341,21 +265,7 @@ fn folder_visits<D: Disk>(
     Ok(visits)
 }
 
-/// Visits of what is wanted and not named: of the added files, and then of the folders, inside their root.
-fn unnamed_visits<D: Disk>(
-    alloc: Global,
-    disk: &D,
-    wanted: &Wanted<'_, '_>,
-) -> Result<Vec<Visit>, AllocError>
-    ensures { IfOk result (λ visits. AreUnnamedVisits (D.may_answer disk.now) wanted.now visits.items) }
-{
-    let mut visits = added_visits(alloc, disk, wanted.added)?;
-    let inside = RootedDisk::new(disk, wanted.root);
-    visits.append(&mut folder_visits(alloc, &inside, wanted.folders.as_slice())?)?;
-    Ok(visits)
-}
-
-/// Visits all that is wanted: what is named in the order given, then the added files, and then the folders, inside
+/// Visits all that a line asks for: what is named in the order given, then the added files, and then the folders, inside
 /// their root.
 ///
 /// A named file is read whatever its name, and so is an added one, which is seen under that name; in a named folder,
@@ -364,11 +274,14 @@ fn unnamed_visits<D: Disk>(
 pub(crate) fn visits<D: Disk>(
     alloc: Global,
     disk: &D,
-    wanted: &Wanted<'_, '_>,
+    line: &Line<'_>,
 ) -> Result<Vec<Visit>, AllocError>
-    ensures { IfOk result (λ visits. AreVisits (D.may_answer disk.now) wanted.now visits.items) }
+    ensures { IfOk result (λ visits. AreVisits (D.may_answer disk.now) line.now visits.items) }
 {
+    let wanted = wanted(alloc, line)?;
     let mut visits = named_visits(alloc, disk, wanted.kind, wanted.files)?;
-    visits.append(&mut unnamed_visits(alloc, disk, wanted)?)?;
+    visits.append(&mut added_visits(alloc, disk, wanted.added)?)?;
+    let inside = RootedDisk::new(disk, wanted.root);
+    visits.append(&mut folder_visits(alloc, &inside, wanted.folders.as_slice())?)?;
     Ok(visits)
 }

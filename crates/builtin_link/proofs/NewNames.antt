@@ -1,6 +1,7 @@
 -- The name of an interface may be the name of one, or it is the one that it has.
 use Rattle.std.proofs.Common.{◌≡◌, ◌⊎◌, Bool, true, false, ℕ, List, [], ◌∷◌, fold, inl, inr, refl, subst}
 use Rattle.std.specs.Prelude.{codes, Option, Some, None, not, option_and_then, if◌then◌else◌}
+use Rattle.std.specs.Bool.{then_some}
 use Rattle.std.specs.Option.{option_or}
 use Rattle.text_bytes.specs.Texts.{is_empty}
 use Rattle.text_bytes.specs.Text.{Text}
@@ -9,8 +10,9 @@ use Rattle.text_tables.specs.Pairs.{Pair, value_of}
 use Rattle.device_core.specs.Values.{EventValue}
 use Rattle.link_files.specs.Lists.{is_of, link_section}
 use Rattle.link_files.specs.Names.{is_interface_name}
-use Rattle.builtin_link.specs.Policies.{given_name, keeps_name, name_by, name_by_policies, name_left, name_of, name_source, new_name}
-use Rattle.builtin_link.specs.Policies.{policies_count, policies_of, present_name, property_of, valid_name, with_name}
+use Rattle.builtin_link.specs.Numbers.{own_number}
+use Rattle.builtin_link.specs.Policies.{given_name, keeps_name, name_by, name_by_policies, name_left, name_of, new_name}
+use Rattle.builtin_link.specs.Policies.{policies_count, policies_of, present_name, property_of, with_name}
 use Rattle.link_files.specs.declared.settings.Setting.{Setting}
 
 -- a name, if there is one, may be the name of an interface, or is the present one
@@ -37,9 +39,14 @@ pub choice_fine : (present chosen other : Option Text) (choice : Bool) → IsFin
 choice_fine present chosen other true f g = f
 choice_fine present chosen other false f g = g
 
-pub checked_fine : (present name : Option Text) → IsFine present (option_and_then valid_name name)
+pub held_fine : (present : Option Text) (name : Text) (valid : Bool) → is_interface_name name ≡ valid → IsFine present (then_some valid name)
+held_fine present name true e =
+    record { fine = λ text h. let same : name ≡ text = cc in let P : Text → Type 0 = λ t. is_interface_name t ≡ true in inl (subst P same e) }
+held_fine present name false e = none_fine present
+
+pub checked_fine : (present name : Option Text) → IsFine present (option_and_then (λ text. then_some (is_interface_name text) text) name)
 checked_fine present None = none_fine present
-checked_fine present (Some text) = valid_fine present None text (is_interface_name text) refl (none_fine present)
+checked_fine present (Some text) = held_fine present text (is_interface_name text) refl
 
 pub policies_fine : (source : Option ℕ) (env : List Pair) (left : Option Text) (policies : List Text) → IsFine (present_name env) left
     → IsFine (present_name env) (name_by_policies source env (present_name env) left policies)
@@ -70,8 +77,9 @@ left_fine env settings =
 pub new_fine : (event : EventValue) (env : List Pair) (settings : List Setting) → IsFine (present_name env) (new_name event env settings)
 unfolding new_name
 new_fine event env settings =
-    choice_fine (present_name env) (name_by_policies (name_source event) env (present_name env) (name_left env settings) (policies_of settings)) (name_left env settings)
-    (policies_count event) (policies_fine (name_source event) env (name_left env settings) (policies_of settings) (left_fine env settings)) (left_fine env settings)
+    let source = own_number event (codes "name_assign_type") in
+    choice_fine (present_name env) (name_by_policies source env (present_name env) (name_left env settings) (policies_of settings)) (name_left env settings)
+    (policies_count event) (policies_fine source env (name_left env settings) (policies_of settings) (left_fine env settings)) (left_fine env settings)
 
 pub all_fine : (event : EventValue) (env : List Pair) (settings : List Setting) → IsFine (present_name env) (name_of event env settings)
 unfolding name_of

@@ -1,7 +1,8 @@
 -- Whether a .link file is for an interface, and what a block would have to report to tell.
-use Rattle.std.specs.Prelude.{◌&&◌, ◌||◌, Bool, true, false, List, [], ◌∷◌, ◌++◌, codes, filter_map, map}
+use Rattle.std.specs.Prelude.{◌&&◌, Bool, true, false, List, [], ◌∷◌, ◌++◌, codes, filter_map, map}
 use Rattle.std.specs.Prelude.{Option, Some, None, if◌then◌else◌}
 use Rattle.std.specs.List.{list_all, list_any}
+use Rattle.std.specs.Option.{option_map_or}
 use Rattle.text_bytes.specs.Texts.{is_empty}
 use Rattle.text_bytes.specs.Text.{Text}
 use Rattle.text_tables.specs.Pairs.{Pair, value_of}
@@ -52,21 +53,12 @@ unfoldable pub known_check : Need → List Text → Option Text → Check
 known_check need words None = if is_empty words then Absent else Lacks need
 known_check need words (Some text) = text_check words (Some text)
 
--- whether an address is one of these words: not known if a word is no address of six or twenty bytes
-abbrev pub one_of_check : List Text → Text → Check
-one_of_check words text =
-    if has_address words text then Holds
-    else if are_addresses words then Fails
-    else Lacks MacAddress
-
--- the same for an address that the block may lack
-abbrev pub lacking_check : Need → List Text → Option Text → Check
-lacking_check need words None = Lacks need
-lacking_check need words (Some text) = one_of_check words text
-
--- whether an address is one of the words that are given for it
+-- whether an address, which the block may lack, is one of the words that are given for it: not known if it is none of them and
+-- a word is no address of six or twenty bytes
 unfoldable pub address_check : Need → List Text → Option Text → Check
-address_check need words text = if is_empty words then Absent else lacking_check need words text
+address_check need words text =
+    if is_empty words then Absent
+    else option_map_or (λ t. if has_address words t then Holds else if are_addresses words then Fails else Lacks MacAddress) text (Lacks need)
 
 -- the address of the hardware: that of the interface, if the block says that this is it, or else what the block says of it
 unfoldable pub permanent_address : EventValue → Option Text
@@ -79,16 +71,11 @@ permanent_address event =
 unfoldable pub property_check : List Pair → List Text → Check
 property_check env words = if is_empty words then Absent else check_of (are_true_of env words)
 
--- a condition, by whether it holds, if the block tells that
-abbrev pub told_check : Need → Option Bool → Check
-told_check need None = Lacks need
-told_check need (Some holds) = check_of holds
-
--- a condition on the machine, by its key; an empty value asks nothing
+-- a condition on the machine, by its key, if the block tells whether it holds; an empty value asks nothing
 abbrev pub condition_check : EventValue → List Setting → Text × Need → Check
 condition_check event settings condition =
     let value = last_of match_section condition.0 settings in
-    if is_empty value then Absent else told_check condition.1 (written_holds event condition.1 value)
+    if is_empty value then Absent else option_map_or check_of (written_holds event condition.1 value) (Lacks condition.1)
 
 -- whether the kind of an interface fits the words that are given for it: an empty kind is none
 unfoldable pub kind_check : List Text → Option Text → Check
@@ -132,39 +119,28 @@ checks_of event env settings = name_checks event env settings ++ kind_checks eve
 -- whether a key is given
 abbrev pub is_given : Check → Bool
 is_given Absent = false
-is_given Holds = true
-is_given Fails = true
-is_given (Lacks need) = true
+is_given _ = true
 
 -- whether a key says nothing against the interface
 abbrev pub is_met : Check → Bool
 is_met Absent = true
 is_met Holds = true
-is_met Fails = false
-is_met (Lacks need) = false
+is_met _ = false
 
--- whether it is not known
-abbrev pub is_unknown : Check → Bool
-is_unknown Absent = false
-is_unknown Holds = false
-is_unknown Fails = false
-is_unknown (Lacks need) = true
+-- whether a key says that the file is not for the interface
+abbrev pub is_failing : Check → Bool
+is_failing Fails = true
+is_failing _ = false
 
 -- the word for what is not known
 abbrev pub lacked_word : Check → Option Text
-lacked_word Absent = None
-lacked_word Holds = None
-lacked_word Fails = None
 lacked_word (Lacks need) = Some (word_of need)
+lacked_word _ = None
 
 -- A file is for an interface if a key is given, and each that is given says so.
 abbrev pub is_for : List Check → Bool
 is_for checks = list_any is_given checks && list_all is_met checks
 
--- whether no key says that the file is not for the interface
-abbrev pub may_be_for : List Check → Bool
-may_be_for checks = list_all (λ check. is_met check || is_unknown check) checks
-
 -- what would tell whether it is, if no key says that it is not
 abbrev pub lacked_words : List Check → List Text
-lacked_words checks = if may_be_for checks then filter_map lacked_word checks else []
+lacked_words checks = if list_any is_failing checks then [] else filter_map lacked_word checks

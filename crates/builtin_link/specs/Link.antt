@@ -1,5 +1,5 @@
 -- The outcome of net_setup_link.
-use Rattle.std.specs.Prelude.{◌%◌, ◌/◌, ◌==◌, not, Bool, false, List, [], ◌∷◌, ◌++◌, codes, is_some}
+use Rattle.std.specs.Prelude.{◌-◌, ◌^◌, ◌%◌, ◌/◌, ◌==◌, not, Bool, false, List, [], ◌∷◌, ◌++◌, codes, is_some}
 use Rattle.std.specs.Prelude.{Option, Some, None, if◌then◌else◌}
 use Rattle.std.specs.Option.{option_map_or}
 use Rattle.text_bytes.specs.Texts.{is_empty}
@@ -8,11 +8,12 @@ use Rattle.text_tables.specs.Texts.{is_among}
 use Rattle.text_tables.specs.Pairs.{Pair, value_of}
 use Rattle.device_core.specs.Values.{EventValue}
 use Rattle.builtin_devices.specs.Devices.{attribute}
+use Rattle.builtin_devices.specs.Numbers.{number_in}
+use Rattle.builtin_devices.specs.declared.numbers.Base.TheVariants.{AsWritten}
 use Rattle.builtin_devices.specs.Outcomes.{OutcomeValue, failing, needs_of, succeeding}
 use Rattle.builtin_link.specs.Checks.{checks_of, is_for, lacked_words}
 use Rattle.link_files.specs.Files.{LinkFileValue}
 use Rattle.link_files.specs.Lists.{last_of, link_section}
-use Rattle.builtin_link.specs.Numbers.{number_of}
 use Rattle.builtin_link.specs.Policies.{name_of, present_name}
 use Rattle.link_files.specs.declared.settings.Setting.{Setting}
 
@@ -57,19 +58,11 @@ abbrev pub name_with : EventValue → (env : List Pair) → Option LinkFileValue
 name_with event env None = None
 name_with event env (Some file) = name_of event env file.settings
 
--- what would have to be known if there is no name
-abbrev pub name_needs : (name : Option Text) → List Text
-name_needs None = codes "INTERFACE" ∷ []
-name_needs (Some name) = []
-
--- what would have to be known with a file and the name by it
-abbrev pub needed_with : LinkFileValue → (name : Option Text) → List Text
-needed_with file name = given_keys file.settings property_keys ++ name_needs name
-
--- what would have to be known with the file for an interface
+-- what would have to be known with the file for an interface: also its name, if there is none by the file
 abbrev pub needs_with : EventValue → (env : List Pair) → Option LinkFileValue → List Text
 needs_with event env None = []
-needs_with event env (Some file) = needed_with file (name_of event env file.settings)
+needs_with event env (Some file) =
+    given_keys file.settings property_keys ++ (if is_some (name_of event env file.settings) then [] else codes "INTERFACE" ∷ [])
 
 -- the outcome if files are looked at
 unfoldable pub by_files : EventValue → (env : List Pair) → List LinkFileValue → OutcomeValue
@@ -79,12 +72,7 @@ by_files event env files =
 
 -- the number of a text whose bit of 8 says that an interface is the machine's own
 abbrev pub is_loopback : (flags : Text) → Bool
-is_loopback flags = option_map_or (λ n. n / 8 % 2 == 1) (number_of flags) false
-
--- the outcome for an interface with flags: nothing is set for the machine's own
-abbrev pub by_flags : EventValue → (env : List Pair) → List LinkFileValue → Option Text → OutcomeValue
-by_flags event env files None = succeeding [] (needs_of (codes "flags" ∷ []))
-by_flags event env files (Some flags) = if is_loopback flags then succeeding [] (needs_of []) else by_files event env files
+is_loopback flags = option_map_or (λ n. n / 8 % 2 == 1) (number_in AsWritten (2 ^ 32 - 1) flags) false
 
 -- the outcome if the interface keeps its name whatever files say
 abbrev pub by_present : Option Text → OutcomeValue
@@ -92,9 +80,10 @@ by_present None = succeeding [] (needs_of (codes "INTERFACE" ∷ []))
 by_present (Some name) = succeeding ((codes "ID_NET_NAME", name) ∷ []) (needs_of [])
 
 -- The outcome of net_setup_link: on `add`, `bind` and `move` by the files, on any other action the name that the interface
--- has. It fails without an index.
+-- has. It fails without an index. Nothing is set for the machine's own interface, nor for one without flags.
 unfoldable pub net_setup_link : (files : List LinkFileValue) → EventValue → (env : List Pair) → OutcomeValue
 net_setup_link files event env =
     if not (is_among looking_actions event.action) then by_present (present_name env)
     else if not (is_some (value_of event.device.env (codes "IFINDEX"))) then failing (needs_of (codes "IFINDEX" ∷ []))
-    else by_flags event env files (attribute event.device (codes "flags"))
+    else option_map_or (λ flags. if is_loopback flags then succeeding [] (needs_of []) else by_files event env files)
+    (attribute event.device (codes "flags")) (succeeding [] (needs_of (codes "flags" ∷ [])))

@@ -1,8 +1,8 @@
 -- The conditions of a .link file on the machine, by what a block tells of it.
-use Rattle.std.specs.Prelude.{Bool, true, false, not, ◌&&◌, ◌||◌, if◌then◌else◌, List, [], ◌∷◌, Option, Some, None, option_map, codes}
-use Rattle.std.specs.Bool.{beq}
+use Rattle.std.specs.Prelude.{Bool, true, false, not, ◌&&◌, ◌||◌, if◌then◌else◌, List, [], ◌∷◌, Option, Some, None, option_map, option_and_then, codes}
+use Rattle.std.specs.Bool.{beq, then_some}
 use Rattle.std.specs.List.{list_any}
-use Rattle.std.specs.Option.{option_eq, option_map_or}
+use Rattle.std.specs.Option.{option_eq, option_map_or, option_or}
 use Rattle.text_bytes.specs.Texts.{first, following, is_empty, unindented}
 use Rattle.text_bytes.specs.Text.{Text}
 use Rattle.text_tables.specs.Texts.{is_among, same_text}
@@ -24,24 +24,16 @@ containers =
     codes "systemd-nspawn" ∷ codes "lxc-libvirt" ∷ codes "lxc" ∷ codes "openvz" ∷ codes "docker" ∷ codes "podman" ∷ codes "rkt" ∷ codes "wsl"
     ∷ codes "proot" ∷ codes "pouch" ∷ codes "container-other" ∷ []
 
--- whether a machine is virtual, by the name of its virtualization
-abbrev pub is_virtual : Text → Bool
-is_virtual virt = not (same_text virt (codes "none"))
-
--- whether the value of Virtualization is true of a machine that is virtual: it is the kind of virtualization, or its name
-abbrev pub is_kind_of : (virt value : Text) → Bool
-is_kind_of virt value =
-    if same_text value (codes "vm") then not (is_among containers virt)
-    else if same_text value (codes "container") then is_among containers virt
-    else same_text value virt
-
--- whether the value of Virtualization is true of a machine, by the name of its virtualization
+-- whether the value of Virtualization is true of a machine, by the name of its virtualization: it is a word for whether the machine is
+-- virtual, or for one that is virtual the kind of virtualization, or its name
 abbrev pub is_virtualized : (virt value : Text) → Bool
 is_virtualized virt value =
-    if is_yes value then is_virtual virt
-    else if is_no value then not (is_virtual virt)
-    else if is_virtual virt then is_kind_of virt value
-    else false
+    if is_yes value then not (same_text virt (codes "none"))
+    else if is_no value then same_text virt (codes "none")
+    else if same_text virt (codes "none") then false
+    else if same_text value (codes "vm") then not (is_among containers virt)
+    else if same_text value (codes "container") then is_among containers virt
+    else same_text value virt
 
 -- the same by what the event tells; whether users are mapped it does not tell
 abbrev pub virtualization_holds : EventValue → Text → Option Bool
@@ -49,19 +41,16 @@ virtualization_holds event value =
     if same_text value (codes "private-users") then None
     else option_map (λ virt. is_virtualized virt value) (value_of event.constants (codes "virt"))
 
--- whether the value of Architecture is that of a machine
-abbrev pub is_built_for : (arch value : Text) → Bool
-is_built_for arch value = same_text value arch || same_text value (codes "native")
+-- whether the value of Architecture is that of the machine, if the event tells it
+abbrev pub architecture_holds : EventValue → Text → Option Bool
+architecture_holds event value = option_map (λ arch. same_text value arch || same_text value (codes "native")) (value_of event.constants (codes "arch"))
 
--- whether a word is on the kernel's command line, by whether it is on the whole line, if the event gives that, or else in a part of it
-abbrev pub held_in : (whole : Option Bool) → (is_in_part : Bool) → Option Bool
-held_in (Some is_there) is_in_part = Some is_there
-held_in None is_in_part = if is_in_part then Some true else None
-
--- whether the kernel's command line has a word, if the event tells it
+-- whether the kernel's command line has a word: the whole line, if the event gives that, or else a part of it, which does not tell
+-- what it lacks
 abbrev pub command_line_holds : EventValue → Text → Option Bool
 command_line_holds event word =
-    held_in (option_map (has_word word) (file_at event (codes "cmdline"))) (option_map_or (has_word word) (file_at event (codes "cmdline.part")) false)
+    option_or (option_map (has_word word) (file_at event (codes "cmdline")))
+    (option_and_then (λ part. then_some (has_word word part) true) (file_at event (codes "cmdline.part")))
 
 -- whether a value begins with an operator alone, whose text udev takes with its quotes, and there are some
 abbrev pub is_unclear : Text → Bool
@@ -76,7 +65,7 @@ version_holds event is_negated value =
 
 -- whether a condition holds of the machine, by what would tell it and its value, if the event tells it
 abbrev pub condition_holds : EventValue → Need → Text → Option Bool
-condition_holds event Architecture value = option_map (λ arch. is_built_for arch value) (value_of event.constants (codes "arch"))
+condition_holds event Architecture value = architecture_holds event value
 condition_holds event Virtualization value = virtualization_holds event value
 condition_holds event KernelCommandLine value = command_line_holds event value
 condition_holds event KernelVersion value = version_holds event false value

@@ -6,10 +6,6 @@ use Rattle.builtin_devices.specs.Devices.{attribute}
 use Rattle.builtin_devices.specs.Numbers.{number_in}
 use Rattle.builtin_devices.specs.declared.numbers.Base.TheVariants.{AsWritten}
 
--- the number of 32 bits that a text is
-abbrev pub number_of : Text → Option ℕ
-number_of text = number_in AsWritten (2 ^ 32 - 1) text
-
--- the number that an attribute of the interface is
+-- the number of 32 bits that an attribute of the interface is
 abbrev pub own_number : EventValue → (name : Text) → Option ℕ
-own_number event name = option_and_then number_of (attribute event.device name)
+own_number event name = option_and_then (number_in AsWritten (2 ^ 32 - 1)) (attribute event.device name)

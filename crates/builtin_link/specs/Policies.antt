@@ -1,6 +1,7 @@
 -- The name of an interface.
 use Rattle.std.specs.Prelude.{ℕ, ◌&&◌, ◌||◌, not, Bool, false, List, [], ◌∷◌, codes, fold}
 use Rattle.std.specs.Prelude.{Option, Some, None, option_and_then, if◌then◌else◌}
+use Rattle.std.specs.Bool.{then_some}
 use Rattle.std.specs.Option.{option_map_or, option_or}
 use Rattle.text_bytes.specs.Texts.{is_empty}
 use Rattle.text_bytes.specs.Text.{Text}
@@ -18,12 +19,8 @@ use Rattle.link_files.specs.Words.{words_of}
 use Rattle.link_files.specs.declared.settings.Setting.{Setting}
 use Rattle.link_files.specs.declared.words.WordKind.TheVariants.{Plain}
 
--- where the name that an interface has comes from, as the kernel counts it: 2 for one that it can predict, 3 and 4 for
--- one that a program gave it as it was made or later
-abbrev pub name_source : EventValue → Option ℕ
-name_source event = own_number event (codes "name_assign_type")
-
--- whether a policy says that the interface keeps its name
+-- whether a policy says that the interface keeps its name, by where that comes from, as the kernel counts it: 2 for one that
+-- it can predict, 3 and 4 for one that a program gave it as it was made or later
 unfoldable pub keeps_name : (source : Option ℕ) → (policy : Text) → Bool
 keeps_name source policy =
     same_text policy (codes "kernel") && is_number 2 source
@@ -39,13 +36,9 @@ property_of policy =
     else if same_text policy (codes "mac") then Some (codes "ID_NET_NAME_MAC")
     else None
 
--- a text, if it may be the name of an interface
-abbrev pub valid_name : Text → Option Text
-valid_name text = if is_interface_name text then Some text else None
-
--- the name by a policy
+-- the name by a policy, if it may be the name of an interface
 abbrev pub name_by : List Pair → (policy : Text) → Option Text
-name_by env policy = option_and_then valid_name (option_and_then (value_of env) (property_of policy))
+name_by env policy = option_and_then (λ name. then_some (is_interface_name name) name) (option_and_then (value_of env) (property_of policy))
 
 -- The name by policies in turn: the first that says that the name is kept, or that has a name, counts. If none does,
 -- it is the one that is left.
@@ -71,14 +64,11 @@ given_name settings = fold with_name None settings
 unfoldable pub policies_of : List Setting → List Text
 policies_of settings = words_of Plain (last_of link_section (codes "NamePolicy") settings)
 
--- the kernel's command line, or the words of it that the block gives
-abbrev pub command_line : EventValue → Option Text
-command_line event = option_or (file_at event (codes "cmdline")) (file_at event (codes "cmdline.part"))
-
--- whether policies count: the kernel's command line, if the block gives it, may give `net.ifnames` a word for no
+-- whether policies count: the kernel's command line, or the words of it that the block gives, may give `net.ifnames` a word for no
 unfoldable pub policies_count : EventValue → Bool
 policies_count event =
-    not (option_map_or is_no (option_and_then (cmdline_value (codes "net.ifnames")) (command_line event)) false)
+    let line = option_or (file_at event (codes "cmdline")) (file_at event (codes "cmdline.part")) in
+    not (option_map_or is_no (option_and_then (cmdline_value (codes "net.ifnames")) line) false)
 
 -- the name that an interface has
 abbrev pub present_name : List Pair → Option Text
@@ -92,7 +82,7 @@ name_left env settings = option_or (given_name settings) (present_name env)
 unfoldable pub new_name : EventValue → (env : List Pair) → List Setting → Option Text
 new_name event env settings =
     if policies_count event
-    then name_by_policies (name_source event) env (present_name env) (name_left env settings) (policies_of settings)
+    then name_by_policies (own_number event (codes "name_assign_type")) env (present_name env) (name_left env settings) (policies_of settings)
     else name_left env settings
 
 -- the name by the event: only a new interface is named

@@ -1,16 +1,17 @@
 //! Whether a `.link` file is for an interface, and what a block would have to report to tell.
-ghost use Rattle.std.specs.Prelude.{◌≡◌, IfOk, OnOk, filter_map, option_map};
+ghost use Rattle.std.specs.Prelude.{◌≡◌, IfOk, OnOk, codes, option_map};
 ghost use Rattle.std.specs.List.{list_all, list_any};
 ghost use Rattle.text_tables.specs.Texts.{with_texts};
-ghost use Rattle.builtin_link.specs.Checks.{address_check, check_of, is_for, is_given, is_met, is_unknown, known_check, lacked_word, lacked_words};
-ghost use Rattle.builtin_link.specs.Checks.{kind_check, lacking_check, told_check};
-ghost use Rattle.builtin_link.specs.Checks.{may_be_for, one_of_check, property_check, text_check, word_of};
+ghost use Rattle.link_files.specs.Lists.{list_of};
+ghost use Rattle.link_files.specs.declared.words.WordKind.TheVariants.{Glob, Plain, Property};
+ghost use Rattle.builtin_link.specs.Checks.{address_check, check_of, is_failing, is_for, is_given, is_met, kind_check, known_check};
+ghost use Rattle.builtin_link.specs.Checks.{lacked_word, lacked_words, property_check, text_check, word_of};
 
 use crate::addresses::{are_addresses, has_address};
 use crate::globs::{are_true_of, passes_if};
 use builtin_devices::some_text;
+use link_files::{Setting, WordKind, list_of};
 use std::alloc::{AllocError, Global};
-use text_bytes::Bytes;
 use text_tables::{CowPairs, OwnedTexts};
 
 /// What a block may lack to tell whether a file is for an interface.
@@ -82,20 +83,10 @@ impl Need {
 
 impl Check {
     /// The check of a key that is given.
-    fn of(holds: bool) -> Check
+    pub(crate) fn of(holds: bool) -> Check
         ensures { result ≡ check_of holds }
     {
         if holds { Check::Holds } else { Check::Fails }
-    }
-
-    /// The check of a condition, by whether it holds, if the block tells that.
-    pub(crate) fn told(need: Need, holds: Option<bool>) -> Check
-        ensures { result ≡ told_check need holds }
-    {
-        match holds {
-            Some(holds) => Check::of(holds),
-            None => Check::Lacks(need),
-        }
     }
 
     /// Whether the key is given.
@@ -118,13 +109,13 @@ impl Check {
         }
     }
 
-    /// Whether it is not known.
-    fn is_unknown(self) -> bool
-        ensures { result ≡ is_unknown self }
+    /// Whether the key says that the file is not for the interface.
+    fn is_failing(self) -> bool
+        ensures { result ≡ is_failing self }
     {
         match self {
-            Check::Lacks(_) => true,
-            Check::Absent | Check::Holds | Check::Fails => false,
+            Check::Fails => true,
+            Check::Absent | Check::Holds | Check::Lacks(_) => false,
         }
     }
 
@@ -139,110 +130,107 @@ impl Check {
     }
 }
 
-/// Whether a text fits the words that are given for it.
+/// Whether a text fits the words that are given for it by a key.
 #[tactic(auto, unfolding(crate::specs::Checks::text_check))]
 pub(crate) fn text_check(
     alloc: Global,
-    words: &[Bytes],
+    kind: WordKind,
+    key: &[u8],
+    settings: &[Setting],
     text: Option<&[u8]>,
 ) -> Result<Check, AllocError>
-    ensures { IfOk result (λ check. check ≡ text_check words.now (option_map (λ t. t.now) text.entry)) }
+    ensures { IfOk result (λ check. check ≡ text_check (list_of kind key.now settings.now) (option_map (λ t. t.now) text.entry)) }
 {
+    let words = list_of(alloc, kind, key, settings)?;
     if words.is_empty() {
         return Ok(Check::Absent);
     }
-    Ok(Check::of(passes_if(alloc, words, text)?))
+    Ok(Check::of(passes_if(alloc, &words, text)?))
 }
 
-/// The same for what each interface has.
+/// The same for what each interface has, by a key with patterns.
 #[tactic(auto, unfolding(crate::specs::Checks::known_check))]
 pub(crate) fn known_check(
     alloc: Global,
     need: Need,
-    words: &[Bytes],
+    key: &[u8],
+    settings: &[Setting],
     text: Option<&[u8]>,
 ) -> Result<Check, AllocError>
-    ensures { IfOk result (λ check. check ≡ known_check need words.now (option_map (λ t. t.now) text.entry)) }
+    ensures { IfOk result (λ check. check ≡ known_check need (list_of Glob key.now settings.now) (option_map (λ t. t.now) text.entry)) }
 {
-    match text {
-        Some(text) => text_check(alloc, words, Some(text)),
-        None if words.is_empty() => Ok(Check::Absent),
-        None => Ok(Check::Lacks(need)),
+    if let Some(text) = text {
+        return text_check(alloc, WordKind::Glob, key, settings, Some(text));
     }
+    let words = list_of(alloc, WordKind::Glob, key, settings)?;
+    if words.is_empty() {
+        return Ok(Check::Absent);
+    }
+    Ok(Check::Lacks(need))
 }
 
-/// Whether the kind of an interface fits the words that are given for it: an empty kind is none.
+/// Whether the kind of an interface fits the words of Kind: an empty kind is none.
 #[tactic(auto, unfolding(crate::specs::Checks::kind_check))]
 pub(crate) fn kind_check(
     alloc: Global,
-    words: &[Bytes],
+    settings: &[Setting],
     kind: Option<&[u8]>,
 ) -> Result<Check, AllocError>
-    ensures { IfOk result (λ check. check ≡ kind_check words.now (option_map (λ t. t.now) kind.entry)) }
+    ensures { IfOk result (λ check. check ≡ kind_check (list_of Glob (codes "Kind") settings.now) (option_map (λ t. t.now) kind.entry)) }
 {
     match kind {
-        Some(kind) => text_check(alloc, words, some_text(Some(kind))),
-        None => known_check(alloc, Need::Kind, words, None),
+        Some(kind) => text_check(
+            alloc,
+            WordKind::Glob,
+            b"Kind",
+            settings,
+            some_text(Some(kind)),
+        ),
+        None => known_check(alloc, Need::Kind, b"Kind", settings, None),
     }
 }
 
-/// Whether an address is one of these words.
-fn one_of_check(alloc: Global, words: &[Bytes], text: &[u8]) -> Result<Check, AllocError>
-    ensures { IfOk result (λ check. check ≡ one_of_check words.now text.now) }
+/// Whether an address, which the block may lack, is one of the words that are given for it by a key.
+#[tactic(auto, unfolding(crate::specs::Checks::address_check))]
+pub(crate) fn address_check(
+    alloc: Global,
+    need: Need,
+    key: &[u8],
+    settings: &[Setting],
+    text: Option<&[u8]>,
+) -> Result<Check, AllocError>
+    ensures { IfOk result (λ check. check ≡ address_check need (list_of Plain key.now settings.now) (option_map (λ t. t.now) text.entry)) }
 {
-    if has_address(alloc, words, text)? {
+    let words = list_of(alloc, WordKind::Plain, key, settings)?;
+    if words.is_empty() {
+        return Ok(Check::Absent);
+    }
+    let Some(text) = text else {
+        return Ok(Check::Lacks(need));
+    };
+    if has_address(alloc, &words, text)? {
         return Ok(Check::Holds);
     }
-    if are_addresses(alloc, words)? {
+    if are_addresses(alloc, &words)? {
         return Ok(Check::Fails);
     }
     Ok(Check::Lacks(Need::MacAddress))
 }
 
-/// The same for an address that the block may lack.
-fn lacking_check(
-    alloc: Global,
-    need: Need,
-    words: &[Bytes],
-    text: Option<&[u8]>,
-) -> Result<Check, AllocError>
-    ensures { IfOk result (λ check. check ≡ lacking_check need words.now (option_map (λ t. t.now) text.entry)) }
-{
-    match text {
-        Some(text) => one_of_check(alloc, words, text),
-        None => Ok(Check::Lacks(need)),
-    }
-}
-
-/// Whether an address is one of the words that are given for it.
-#[tactic(auto, unfolding(crate::specs::Checks::address_check))]
-pub(crate) fn address_check(
-    alloc: Global,
-    need: Need,
-    words: &[Bytes],
-    text: Option<&[u8]>,
-) -> Result<Check, AllocError>
-    ensures { IfOk result (λ check. check ≡ address_check need words.now (option_map (λ t. t.now) text.entry)) }
-{
-    if words.is_empty() {
-        return Ok(Check::Absent);
-    }
-    lacking_check(alloc, need, words, text)
-}
-
-/// Whether the words are true of the properties.
+/// Whether the words of Property are true of the properties.
 #[tactic(auto, unfolding(crate::specs::Checks::property_check))]
 pub(crate) fn property_check(
     alloc: Global,
     env: &CowPairs<'_>,
-    words: &[Bytes],
+    settings: &[Setting],
 ) -> Result<Check, AllocError>
-    ensures { IfOk result (λ check. check ≡ property_check env.now words.now) }
+    ensures { IfOk result (λ check. check ≡ property_check env.now (list_of Property (codes "Property") settings.now)) }
 {
+    let words = list_of(alloc, WordKind::Property, b"Property", settings)?;
     if words.is_empty() {
         return Ok(Check::Absent);
     }
-    Ok(Check::of(are_true_of(alloc, env, words)?))
+    Ok(Check::of(are_true_of(alloc, env, &words)?))
 }
 
 /// Whether a file is for an interface: a key is given, and each that is given says so.
@@ -266,25 +254,11 @@ fn are_met(checks: &[Check]) -> bool
     checks.iter().all(|check| check.is_met())
 }
 
-/// Whether no key says that the file is not for the interface.
-fn may_be_for(checks: &[Check]) -> bool
-    ensures { result ≡ may_be_for checks.now }
+/// Whether a key says that the file is not for the interface.
+fn has_failing(checks: &[Check]) -> bool
+    ensures { result ≡ list_any is_failing checks.now }
 {
-    checks
-        .iter()
-        .all(|check| check.is_met() || check.is_unknown())
-}
-
-/// Adds the words for what is not known.
-fn add_words(alloc: Global, checks: &[Check], needs: &mut OwnedTexts) -> Result<(), AllocError>
-    ensures { OnOk result (needs.new ≡ with_texts needs.old (filter_map lacked_word checks.now)) }
-{
-    for check in checks {
-        if let Some(word) = check.lacked_word() {
-            needs.add(alloc, word)?;
-        }
-    }
-    Ok(())
+    checks.iter().any(|check| check.is_failing())
 }
 
 /// Adds what would tell whether a file is for an interface, if no key says that it is not.
@@ -295,9 +269,13 @@ pub(crate) fn add_lacked(
 ) -> Result<(), AllocError>
     ensures { OnOk result (needs.new ≡ with_texts needs.old (lacked_words checks.now)) }
 {
-    if may_be_for(checks) {
-        add_words(alloc, checks, needs)
-    } else {
-        Ok(())
+    if has_failing(checks) {
+        return Ok(());
     }
+    for check in checks {
+        if let Some(word) = check.lacked_word() {
+            needs.add(alloc, word)?;
+        }
+    }
+    Ok(())
 }

@@ -1,6 +1,6 @@
 //! Which texts pass a list of patterns, some of them negated.
 ghost use Rattle.std.specs.Prelude.{◌≡◌, IfOk, option_map};
-ghost use Rattle.builtin_link.specs.Globs.{are_true_of, fits_glob, fits_some, has_plain, has_value, is_signed, is_true_of, passes, passes_if, without_sign};
+ghost use Rattle.builtin_link.specs.Globs.{are_true_of, fits_glob, fits_some, has_plain, has_value, is_signed, is_true_of, passes_if, without_sign};
 
 use std::alloc::{AllocError, Global};
 use text_bytes::{Bytes, begins_with, split_once};
@@ -53,21 +53,8 @@ fn has_plain(words: &[Bytes]) -> bool
     words.iter().any(|word| !is_signed(word.as_slice()))
 }
 
-/// Whether a text fits no negated word, and one of the others if there are any.
+/// Whether a text fits no negated word, and one of the others if there are any; no text fits no word.
 #[tactic(auto, unfolding(crate::specs::Globs::passes))]
-fn passes(alloc: Global, words: &[Bytes], text: &[u8]) -> Result<bool, AllocError>
-    ensures { IfOk result (λ passed. passed ≡ passes words.now text.now) }
-{
-    if fits_some(alloc, true, words, text)? {
-        return Ok(false);
-    }
-    if !has_plain(words) {
-        return Ok(true);
-    }
-    fits_some(alloc, false, words, text)
-}
-
-/// The same if there may be no text, which fits no word.
 pub(crate) fn passes_if(
     alloc: Global,
     words: &[Bytes],
@@ -75,10 +62,16 @@ pub(crate) fn passes_if(
 ) -> Result<bool, AllocError>
     ensures { IfOk result (λ passed. passed ≡ passes_if words.now (option_map (λ t. t.now) text.entry)) }
 {
-    match text {
-        Some(text) => passes(alloc, words, text),
-        None => Ok(!has_plain(words)),
+    let Some(text) = text else {
+        return Ok(!has_plain(words));
+    };
+    if fits_some(alloc, true, words, text)? {
+        return Ok(false);
     }
+    if !has_plain(words) {
+        return Ok(true);
+    }
+    fits_some(alloc, false, words, text)
 }
 
 /// Whether a property has a value that fits.

@@ -1,11 +1,11 @@
 //! What `Type=` is compared with.
 ghost use Rattle.std.specs.Prelude.{◌≡◌, map, option_map};
-ghost use Rattle.builtin_link.specs.Hardware.{beside, hardware_name, hardware_of, type_text};
+ghost use Rattle.builtin_link.specs.Hardware.{beside, hardware_name, type_text};
 
 use builtin_devices::{Base, attribute, number_in, some_text, type_of};
 use device_core::Event;
 
-/// The kernel's numbers for hardware, with their names.
+/// The kernel's numbers for hardware, with the names of `ARPHRD_` in linux/if_arp.h in small letters.
 const HARDWARE_NAMES: [(u64, &[u8]); 31] = [
     (1, b"ether"),
     (24, b"ieee1394"),
@@ -63,21 +63,14 @@ fn hardware_name(number: u64) -> Option<&'static [u8]>
     beside(&HARDWARE_NAMES, number)
 }
 
-/// The name of the hardware that an attribute gives by its number.
-fn hardware_of(text: Option<&[u8]>) -> Option<&'static [u8]>
-    ensures { option_map (λ t. t.now) result ≡ hardware_of (option_map (λ t. t.now) text.entry) }
-{
-    hardware_name(number_in(Base::AsWritten, MAX_HARDWARE, text?)?)
-}
-
 /// The type of an interface: what the kernel calls it, or else its hardware.
 #[tactic(auto, unfolding(crate::specs::Hardware::type_text))]
 pub(crate) fn type_text<'a>(event: &Event<'a>) -> Option<&'a [u8]>
     ensures { option_map (λ t. t.now) result ≡ type_text event.now }
 {
     let device = event.device();
-    match some_text(type_of(device)) {
-        Some(text) => Some(text),
-        None => hardware_of(attribute(device, b"type")),
+    if let Some(text) = some_text(type_of(device)) {
+        return Some(text);
     }
+    hardware_name(number_in(Base::AsWritten, MAX_HARDWARE, attribute(device, b"type")?)?)
 }

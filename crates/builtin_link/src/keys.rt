@@ -1,14 +1,6 @@
 //! What the keys of `[Match]` say about an interface.
-ghost use Rattle.std.specs.Prelude.{◌≡◌, ◌++◌, IfOk, OnOk, Some, codes, map, option_map};
-ghost use Rattle.text_bytes.specs.Kernels.{kernel_name};
-ghost use Rattle.text_tables.specs.Pairs.{value_of};
-ghost use Rattle.builtin_devices.specs.Devices.{attribute};
-ghost use Rattle.link_files.specs.Lists.{list_of};
-ghost use Rattle.link_files.specs.declared.words.WordKind.TheVariants.{Glob, Name, Plain, Property};
-ghost use Rattle.builtin_link.specs.Checks.{address_check, checks_of, condition_check, kind_check, kind_checks, known_check, name_checks, permanent_address};
-ghost use Rattle.builtin_link.specs.Checks.{property_check, text_check};
-ghost use Rattle.builtin_link.specs.Hardware.{type_text};
-ghost use Rattle.builtin_link.specs.declared.checks.Need.TheVariants.{Address, Driver, Hardware, PermanentAddress};
+ghost use Rattle.std.specs.Prelude.{◌≡◌, ◌++◌, IfOk, OnOk, map, option_map};
+ghost use Rattle.builtin_link.specs.Checks.{checks_of, condition_check, kind_checks, name_checks, permanent_address};
 
 use crate::checks::{
     Check, Need, address_check, kind_check, known_check, property_check, text_check,
@@ -18,7 +10,7 @@ use crate::machines::written_holds;
 use crate::numbers::own_number;
 use builtin_devices::{attribute, is_number};
 use device_core::Event;
-use link_files::{MATCH, Setting, WordKind, last_of, list_of};
+use link_files::{MATCH, Setting, WordKind, last_of};
 use std::alloc::{AllocError, Global};
 use text_bytes::kernel_name;
 use text_tables::CowPairs;
@@ -60,36 +52,10 @@ fn condition_check(
     if value.is_empty() {
         return Ok(Check::Absent);
     }
-    Ok(Check::told(need, written_holds(alloc, event, need, value)?))
-}
-
-/// Whether the kernel's name of an interface fits OriginalName.
-fn name_check(alloc: Global, event: &Event<'_>, settings: &[Setting]) -> Result<Check, AllocError>
-    ensures { IfOk result (λ check. check ≡ text_check (list_of Name (codes "OriginalName") settings.now) (Some (kernel_name event.now.device.path))) }
-{
-    let words = list_of(alloc, WordKind::Name, b"OriginalName", settings)?;
-    let kernel = kernel_name(alloc, event.device().path())?;
-    text_check(alloc, &words, Some(kernel.as_slice()))
-}
-
-/// Whether the place of an interface fits Path.
-fn path_check(alloc: Global, env: &CowPairs<'_>, settings: &[Setting]) -> Result<Check, AllocError>
-    ensures { IfOk result (λ check. check ≡ text_check (list_of Glob (codes "Path") settings.now) (value_of env.now (codes "ID_PATH"))) }
-{
-    let words = list_of(alloc, WordKind::Glob, b"Path", settings)?;
-    text_check(alloc, &words, env.get(b"ID_PATH"))
-}
-
-/// Whether the driver of an interface fits Driver.
-fn driver_check(
-    alloc: Global,
-    env: &CowPairs<'_>,
-    settings: &[Setting],
-) -> Result<Check, AllocError>
-    ensures { IfOk result (λ check. check ≡ known_check Driver (list_of Glob (codes "Driver") settings.now) (value_of env.now (codes "ID_NET_DRIVER"))) }
-{
-    let words = list_of(alloc, WordKind::Glob, b"Driver", settings)?;
-    known_check(alloc, Need::Driver, &words, env.get(b"ID_NET_DRIVER"))
+    match written_holds(alloc, event, need, value)? {
+        Some(holds) => Ok(Check::of(holds)),
+        None => Ok(Check::Lacks(need)),
+    }
 }
 
 /// What the keys say about the name of an interface, its place and its driver.
@@ -102,85 +68,14 @@ fn name_checks(
 ) -> Result<[Check; 3], AllocError>
     ensures { IfOk result (λ checks. checks ≡ name_checks event.now env.now settings.now) }
 {
-    let name = name_check(alloc, event, settings)?;
-    let path = path_check(alloc, env, settings)?;
-    let driver = driver_check(alloc, env, settings)?;
+    let kernel = kernel_name(alloc, event.device().path())?;
+    let kernel = Some(kernel.as_slice());
+    let name = text_check(alloc, WordKind::Name, b"OriginalName", settings, kernel)?;
+    let place = env.get(b"ID_PATH");
+    let path = text_check(alloc, WordKind::Glob, b"Path", settings, place)?;
+    let own = env.get(b"ID_NET_DRIVER");
+    let driver = known_check(alloc, Need::Driver, b"Driver", settings, own)?;
     Ok([name, path, driver])
-}
-
-/// Whether the type of an interface fits Type.
-fn type_check(alloc: Global, event: &Event<'_>, settings: &[Setting]) -> Result<Check, AllocError>
-    ensures { IfOk result (λ check. check ≡ known_check Hardware (list_of Glob (codes "Type") settings.now) (type_text event.now)) }
-{
-    let words = list_of(alloc, WordKind::Glob, b"Type", settings)?;
-    known_check(alloc, Need::Hardware, &words, type_text(event))
-}
-
-/// The kind of an interface, if the block tells it; empty if it has none.
-fn kind_of<'a>(event: &Event<'a>) -> Option<&'a [u8]>
-    ensures { option_map (λ t. t.now) result ≡ value_of event.now.constants (codes "kind") }
-{
-    event.constants().get(b"kind")
-}
-
-/// Whether the kind of an interface fits Kind.
-fn own_kind_check(
-    alloc: Global,
-    event: &Event<'_>,
-    settings: &[Setting],
-) -> Result<Check, AllocError>
-    ensures { IfOk result (λ check. check ≡ kind_check (list_of Glob (codes "Kind") settings.now) (value_of event.now.constants (codes "kind"))) }
-{
-    let words = list_of(alloc, WordKind::Glob, b"Kind", settings)?;
-    kind_check(alloc, &words, kind_of(event))
-}
-
-/// Whether the address of an interface is one of MACAddress.
-fn own_address_check(
-    alloc: Global,
-    event: &Event<'_>,
-    settings: &[Setting],
-) -> Result<Check, AllocError>
-    ensures { IfOk result (λ check. check ≡ address_check Address (list_of Plain (codes "MACAddress") settings.now)
-        (attribute event.now.device (codes "address"))) }
-{
-    let words = list_of(alloc, WordKind::Plain, b"MACAddress", settings)?;
-    address_check(
-        alloc,
-        Need::Address,
-        &words,
-        attribute(event.device(), b"address"),
-    )
-}
-
-/// Whether the address of the hardware is one of PermanentMACAddress.
-fn permanent_check(
-    alloc: Global,
-    event: &Event<'_>,
-    settings: &[Setting],
-) -> Result<Check, AllocError>
-    ensures { IfOk result (λ check. check ≡ address_check PermanentAddress (list_of Plain (codes "PermanentMACAddress") settings.now)
-        (permanent_address event.now)) }
-{
-    let words = list_of(alloc, WordKind::Plain, b"PermanentMACAddress", settings)?;
-    address_check(
-        alloc,
-        Need::PermanentAddress,
-        &words,
-        permanent_address(event),
-    )
-}
-
-/// Whether the properties are those of Property.
-fn properties_check(
-    alloc: Global,
-    env: &CowPairs<'_>,
-    settings: &[Setting],
-) -> Result<Check, AllocError>
-    ensures { IfOk result (λ check. check ≡ property_check env.now (list_of Property (codes "Property") settings.now)) }
-{
-    let words = list_of(alloc, WordKind::Property, b"Property", settings)?;
-    property_check(alloc, env, &words)
 }
 
 /// What the keys say about the type of an interface, its kind, its addresses and its properties.
@@ -193,11 +88,14 @@ fn kind_checks(
 ) -> Result<[Check; 5], AllocError>
     ensures { IfOk result (λ checks. checks ≡ kind_checks event.now env.now settings.now) }
 {
-    let hardware = type_check(alloc, event, settings)?;
-    let kind = own_kind_check(alloc, event, settings)?;
-    let address = own_address_check(alloc, event, settings)?;
-    let permanent = permanent_check(alloc, event, settings)?;
-    let property = properties_check(alloc, env, settings)?;
+    let hardware = known_check(alloc, Need::Hardware, b"Type", settings, type_text(event))?;
+    let kind = kind_check(alloc, settings, event.constants().get(b"kind"))?;
+    let own = attribute(event.device(), b"address");
+    let address = address_check(alloc, Need::Address, b"MACAddress", settings, own)?;
+    let own = permanent_address(event);
+    let need = Need::PermanentAddress;
+    let permanent = address_check(alloc, need, b"PermanentMACAddress", settings, own)?;
+    let property = property_check(alloc, env, settings)?;
     Ok([hardware, kind, address, permanent, property])
 }
 

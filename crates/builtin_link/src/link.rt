@@ -1,21 +1,23 @@
 //! The builtin.
-ghost use Rattle.std.specs.Prelude.{◌≡◌, ◌∷◌, [], IfOk, OnOk, Some, map, option_copied, option_map};
-ghost use Rattle.text_tables.specs.Texts.{is_among, with_texts};
+ghost use Rattle.std.specs.Prelude.{◌≡◌, ◌∷◌, [], IfOk, OnOk, map, option_copied, option_map};
+ghost use Rattle.text_tables.specs.Texts.{with_texts};
 ghost use Rattle.builtin_devices.specs.Outcomes.{needs_of};
-ghost use Rattle.builtin_link.specs.Link.{by_files, by_flags, by_present, file_for, file_needs, given_keys, is_loopback, name_needs, name_with};
-ghost use Rattle.builtin_link.specs.Link.{needed_with, needs_with, net_setup_link};
-ghost use Rattle.builtin_link.specs.Link.{looking_actions, properties_by, set_by};
+ghost use Rattle.builtin_link.specs.Link.{by_files, by_present, file_for, file_needs, given_keys, is_loopback, name_with, needs_with, net_setup_link};
+ghost use Rattle.builtin_link.specs.Link.{properties_by, set_by};
 
 use crate::checks::{add_lacked, is_for};
 use crate::keys::checks_of;
-use crate::numbers::number_of;
-use crate::policies::{name_of, present_name};
-use builtin_devices::{BuiltinOutcome, add_property, attribute};
+use crate::numbers::MAX_NUMBER;
+use crate::policies::name_of;
+use builtin_devices::{Base, BuiltinOutcome, add_property, attribute, number_in};
 use device_core::Event;
 use link_files::{LINK, LinkFile, Setting, last_of};
 use std::alloc::{AllocError, Global};
 use text_bytes::Bytes;
-use text_tables::{CowPairs, OwnedTexts};
+use text_tables::{CowPairs, OwnedTexts, is_among};
+
+/// The actions on which files are looked at.
+const LOOKING_ACTIONS: [&[u8]; 3] = [b"add", b"bind", b"move"];
 
 /// The keys of `[Link]` that set properties, which is not computed.
 const PROPERTY_KEYS: [&[u8]; 3] = [b"Property", b"ImportProperty", b"UnsetProperty"];
@@ -78,49 +80,8 @@ fn properties_by(
     Ok(properties)
 }
 
-/// What a file sets, if there is a name.
-fn properties_if(
-    alloc: Global,
-    file: &LinkFile,
-    name: Option<&[u8]>,
-) -> Result<Vec<(Bytes, Bytes)>, AllocError>
-    ensures { IfOk result (λ properties. properties.items ≡ set_by (Some file.now) (option_map (λ t. t.now) name.entry)) }
-{
-    match name {
-        Some(name) => properties_by(alloc, file, name),
-        None => Ok(Vec::new(alloc)),
-    }
-}
-
-/// Adds what would have to be known if there is no name.
-fn add_missing_name(
-    alloc: Global,
-    name: Option<&[u8]>,
-    needs: &mut OwnedTexts,
-) -> Result<(), AllocError>
-    ensures { OnOk result (needs.new ≡ with_texts needs.old (name_needs (option_map (λ t. t.now) name.entry))) }
-{
-    match name {
-        Some(_) => Ok(()),
-        None => needs.add(alloc, b"INTERFACE"),
-    }
-}
-
-/// Adds what would have to be known with a file and the name by it.
+/// What a file sets, if there is one and there is a name by it. Adds what would have to be known with it.
 #[tactic(auto, using(crate::proofs::Needs::in_two))]
-fn add_needed(
-    alloc: Global,
-    file: &LinkFile,
-    name: Option<&[u8]>,
-    needs: &mut OwnedTexts,
-) -> Result<(), AllocError>
-    ensures { OnOk result (needs.new ≡ with_texts needs.old (needed_with file.now (option_map (λ t. t.now) name.entry))) }
-{
-    add_keys(alloc, file.settings(), &PROPERTY_KEYS, needs)?;
-    add_missing_name(alloc, name, needs)
-}
-
-/// What a file sets, if there is one. Adds what would have to be known with it.
 fn set_by(
     alloc: Global,
     event: &Event<'_>,
@@ -136,8 +97,12 @@ fn set_by(
         return Ok(Vec::new(alloc));
     };
     let name = name_of(alloc, event, env, file.settings())?;
-    add_needed(alloc, file, name, needs)?;
-    properties_if(alloc, file, name)
+    add_keys(alloc, file.settings(), &PROPERTY_KEYS, needs)?;
+    let Some(name) = name else {
+        needs.add(alloc, b"INTERFACE")?;
+        return Ok(Vec::new(alloc));
+    };
+    properties_by(alloc, file, name)
 }
 
 /// The outcome if files are looked at.
@@ -160,7 +125,7 @@ fn by_files(
 fn is_loopback(flags: &[u8]) -> bool
     ensures { result ≡ is_loopback flags.now }
 {
-    match number_of(flags) {
+    match number_in(Base::AsWritten, MAX_NUMBER, flags) {
         Some(number) => number / 8 % 2 == 1,
         None => false,
     }
@@ -173,26 +138,6 @@ fn needing(alloc: Global, word: &[u8]) -> Result<OwnedTexts, AllocError>
     let mut needs = OwnedTexts::new(alloc);
     needs.add(alloc, word)?;
     Ok(needs)
-}
-
-/// The outcome for an interface with flags.
-fn by_flags(
-    alloc: Global,
-    files: &[LinkFile],
-    event: &Event<'_>,
-    env: &CowPairs<'_>,
-    flags: Option<&[u8]>,
-) -> Result<BuiltinOutcome, AllocError>
-    ensures { IfOk result (λ outcome. outcome ≡ by_flags event.now env.now files.now (option_map (λ t. t.now) flags.entry)) }
-{
-    let Some(flags) = flags else {
-        let needs = needing(alloc, b"flags")?;
-        return Ok(BuiltinOutcome::succeeding(Vec::new(alloc), needs));
-    };
-    if is_loopback(flags) {
-        return Ok(BuiltinOutcome::succeeding(Vec::new(alloc), OwnedTexts::new(alloc)));
-    }
-    by_files(alloc, files, event, env)
 }
 
 /// The outcome if the interface keeps its name whatever files say.
@@ -210,13 +155,6 @@ fn by_present(alloc: Global, name: Option<&[u8]>) -> Result<BuiltinOutcome, Allo
             Ok(BuiltinOutcome::succeeding(properties, needs))
         }
     }
-}
-
-/// Whether files are looked at on an action.
-fn is_looking(action: &[u8]) -> bool
-    ensures { result ≡ is_among looking_actions action.now }
-{
-    action == b"add".as_slice() || action == b"bind".as_slice() || action == b"move".as_slice()
 }
 
 /// The name of the network interface that the event device is, as the builtin net_setup_link of udev of systemd 257
@@ -237,12 +175,19 @@ pub fn net_setup_link(
 ) -> Result<BuiltinOutcome, AllocError>
     ensures { IfOk result (λ outcome. outcome ≡ net_setup_link files.now event.now env.now) }
 {
-    if !is_looking(event.action()) {
-        return by_present(alloc, present_name(env));
+    if !is_among(&LOOKING_ACTIONS, event.action()) {
+        return by_present(alloc, env.get(b"INTERFACE"));
     }
     let device = event.device();
     if device.env().get(b"IFINDEX").is_none() {
         return Ok(BuiltinOutcome::failing(alloc, needing(alloc, b"IFINDEX")?));
     }
-    by_flags(alloc, files, event, env, attribute(device, b"flags"))
+    let Some(flags) = attribute(device, b"flags") else {
+        let needs = needing(alloc, b"flags")?;
+        return Ok(BuiltinOutcome::succeeding(Vec::new(alloc), needs));
+    };
+    if is_loopback(flags) {
+        return Ok(BuiltinOutcome::succeeding(Vec::new(alloc), OwnedTexts::new(alloc)));
+    }
+    by_files(alloc, files, event, env)
 }

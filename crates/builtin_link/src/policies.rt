@@ -1,10 +1,6 @@
 //! The name of an interface.
-ghost use Rattle.std.specs.Prelude.{◌≡◌, false, IfOk, codes, option_map};
-ghost use Rattle.std.specs.Option.{option_map_or};
-ghost use Rattle.link_files.specs.Booleans.{is_no};
-ghost use Rattle.eval_commands.specs.Cmdline.{cmdline_value};
-ghost use Rattle.builtin_link.specs.Policies.{given_name, keeps_name, name_by, name_by_policies, name_left, name_of, name_source, new_name};
-ghost use Rattle.builtin_link.specs.Policies.{policies_count, policies_of, present_name, property_of, with_name};
+ghost use Rattle.std.specs.Prelude.{◌≡◌, IfOk, option_map};
+ghost use Rattle.builtin_link.specs.Policies.{given_name, keeps_name, name_by, name_by_policies, name_of, policies_count, property_of, with_name};
 
 use crate::numbers::own_number;
 use builtin_devices::{file_at, is_number};
@@ -14,13 +10,6 @@ use link_files::{LINK, Setting, WordKind, is_interface_name, is_no, is_of, last_
 use std::alloc::{AllocError, Global};
 use text_bytes::Bytes;
 use text_tables::CowPairs;
-
-/// Where the name that an interface has comes from, as the kernel counts it.
-fn name_source(event: &Event<'_>) -> Option<u64>
-    ensures { result ≡ name_source event.now }
-{
-    own_number(event, b"name_assign_type")
-}
 
 /// Whether a policy says that the interface keeps its name.
 #[tactic(auto, unfolding(crate::specs::Policies::keeps_name))]
@@ -118,76 +107,22 @@ fn given_name(settings: &[Setting]) -> Option<&[u8]>
     held
 }
 
-/// The policies, of which the last list counts.
-#[tactic(auto, unfolding(crate::specs::Policies::policies_of))]
-fn policies_of(alloc: Global, settings: &[Setting]) -> Result<Vec<Bytes>, AllocError>
-    ensures { IfOk result (λ policies. policies.items ≡ policies_of settings.now) }
-{
-    words_of(
-        alloc,
-        WordKind::Plain,
-        last_of(LINK, b"NamePolicy", settings),
-    )
-}
-
-/// Whether the kernel's command line leaves policies without effect.
-fn is_switched_off(alloc: Global, line: &[u8]) -> Result<bool, AllocError>
-    ensures { IfOk result (λ off. off ≡ option_map_or is_no (cmdline_value (codes "net.ifnames") line.now) false) }
-{
-    match cmdline_value(alloc, b"net.ifnames", line)? {
-        Some(value) => Ok(is_no(value.as_slice())),
-        None => Ok(false),
-    }
-}
-
 /// Whether policies count.
 #[tactic(auto, unfolding(crate::specs::Policies::policies_count))]
 fn policies_count(alloc: Global, event: &Event<'_>) -> Result<bool, AllocError>
     ensures { IfOk result (λ count. count ≡ policies_count event.now) }
 {
-    match file_at(event, b"cmdline").or(file_at(event, b"cmdline.part")) {
-        Some(line) => Ok(!is_switched_off(alloc, line)?),
+    let Some(line) = file_at(event, b"cmdline").or(file_at(event, b"cmdline.part")) else {
+        return Ok(true);
+    };
+    match cmdline_value(alloc, b"net.ifnames", line)? {
+        Some(value) => Ok(!is_no(value.as_slice())),
         None => Ok(true),
     }
 }
 
-/// The name that an interface has.
-pub(crate) fn present_name<'e>(env: &'e CowPairs<'_>) -> Option<&'e [u8]>
-    ensures { option_map (λ t. t.now) result ≡ present_name env.now }
-{
-    env.get(b"INTERFACE")
-}
-
-/// The name if no policy has one.
-fn name_left<'e>(env: &'e CowPairs<'_>, settings: &'e [Setting]) -> Option<&'e [u8]>
-    ensures { option_map (λ t. t.now) result ≡ name_left env.now settings.now }
-{
-    match given_name(settings) {
-        Some(name) => Some(name),
-        None => present_name(env),
-    }
-}
-
-/// The name that a new interface gets.
-#[tactic(auto, unfolding(crate::specs::Policies::new_name))]
-fn new_name<'e>(
-    alloc: Global,
-    event: &Event<'_>,
-    env: &'e CowPairs<'_>,
-    settings: &'e [Setting],
-) -> Result<Option<&'e [u8]>, AllocError>
-    ensures { IfOk result (λ name. option_map (λ t. t.now) name ≡ new_name event.now env.now settings.now) }
-{
-    let left = name_left(env, settings);
-    if !policies_count(alloc, event)? {
-        return Ok(left);
-    }
-    let policies = policies_of(alloc, settings)?;
-    Ok(name_by_policies(name_source(event), env, present_name(env), left, &policies))
-}
-
-/// The name by the event: only a new interface is named.
-#[tactic(auto, unfolding(crate::specs::Policies::name_of))]
+/// The name by the event: only a new interface is named, by policies in turn, or else as it is given.
+#[tactic(auto, unfolding(crate::specs::Policies::name_of, crate::specs::Policies::new_name, crate::specs::Policies::policies_of))]
 pub(crate) fn name_of<'e>(
     alloc: Global,
     event: &Event<'_>,
@@ -196,9 +131,19 @@ pub(crate) fn name_of<'e>(
 ) -> Result<Option<&'e [u8]>, AllocError>
     ensures { IfOk result (λ name. option_map (λ t. t.now) name ≡ name_of event.now env.now settings.now) }
 {
-    if event.action() == b"add".as_slice() {
-        new_name(alloc, event, env, settings)
-    } else {
-        Ok(present_name(env))
+    let present = env.get(b"INTERFACE");
+    if event.action() != b"add".as_slice() {
+        return Ok(present);
     }
+    let left = given_name(settings).or(present);
+    if !policies_count(alloc, event)? {
+        return Ok(left);
+    }
+    let policies = words_of(
+        alloc,
+        WordKind::Plain,
+        last_of(LINK, b"NamePolicy", settings),
+    )?;
+    let source = own_number(event, b"name_assign_type");
+    Ok(name_by_policies(source, env, present, left, &policies))
 }

@@ -1,11 +1,13 @@
 //! How versions follow one another, and what KernelVersion asks of one.
 ghost use Rattle.std.specs.Prelude.{◌≡◌, ◌∷◌, ◌++◌, ◌≤◌, [], IfOk, OnOk, length, map};
 ghost use Rattle.std.specs.List.{prefix_len};
-ghost use Rattle.builtin_link.specs.Versions.{after_front, after_word, asked, asked_by, front_of, is_as_all_ask, is_as_asked, is_as_value_asks, is_as_words_ask};
+ghost use Rattle.link_files.specs.Words.{words_of};
+ghost use Rattle.link_files.specs.declared.words.WordKind.TheVariants.{Property};
+ghost use Rattle.builtin_link.specs.Versions.{after_front, after_word, asked, asked_by, front_of, is_as_all_ask, is_as_value_asks, is_as_words_ask};
 ghost use Rattle.builtin_link.specs.Versions.{is_of, later_parts, part_ranks, rank, stands, version_order, version_ranks, without, word_ranks};
 
 use crate::globs::fits_glob;
-use link_files::{WordKind, from_start, is_whole, stripped, words_of};
+use link_files::{WordKind, from_start, is_whole, stripped};
 use std::alloc::{AllocError, Global};
 use std::cmp::Ordering;
 use std::marker::Model;
@@ -216,18 +218,6 @@ pub(crate) fn asked(word: &[u8]) -> Demand<'_>
     asked_by(&OPERATORS, stripped(word))
 }
 
-/// Whether a version is as a word asks, with this as the text of its operator.
-fn is_as_asked(
-    alloc: Global,
-    version: &[u8],
-    asked: &Demand<'_>,
-    text: &[u8],
-) -> Result<bool, AllocError>
-    ensures { IfOk result (λ holds. holds ≡ is_as_asked version.now (record asked.now { text = text.now })) }
-{
-    Ok(stands(alloc, asked.relation, version, text)? == asked.wanted)
-}
-
 /// Whether a version is as each word asks.
 fn is_as_all_ask(alloc: Global, version: &[u8], words: &[Bytes]) -> Result<Option<bool>, AllocError>
     ensures { IfOk result (λ holds. holds ≡ is_as_all_ask version.now words.now) }
@@ -237,7 +227,7 @@ fn is_as_all_ask(alloc: Global, version: &[u8], words: &[Bytes]) -> Result<Optio
         if asked.text.is_empty() {
             return Ok(None);
         }
-        if !is_as_asked(alloc, version, &asked, asked.text)? {
+        if stands(alloc, asked.relation, version, asked.text)? != asked.wanted {
             return Ok(Some(false));
         }
     }
@@ -262,22 +252,23 @@ fn is_as_words_ask(
     let Some((text, rest)) = more.split_first() else {
         return Ok(None);
     };
-    if !is_as_asked(alloc, version, &asked, text.as_slice())? {
+    if stands(alloc, asked.relation, version, text.as_slice())? != asked.wanted {
         return Ok(Some(false));
     }
     is_as_all_ask(alloc, version, rest)
 }
 
-/// Whether a version is as a value of KernelVersion asks, if the value can be understood.
+/// Whether a version is as a value of KernelVersion with these words asks, if the value can be understood.
 pub(crate) fn is_as_value_asks(
     alloc: Global,
     version: &[u8],
+    words: &[Bytes],
     value: &[u8],
 ) -> Result<Option<bool>, AllocError>
+    requires { words.now ≡ words_of Property value.now }
     ensures { IfOk result (λ holds. holds ≡ is_as_value_asks version.now value.now) }
 {
-    let words = words_of(alloc, WordKind::Property, value)?;
-    match is_as_words_ask(alloc, version, &words)? {
+    match is_as_words_ask(alloc, version, words)? {
         Some(true) if !is_whole(alloc, WordKind::Property, value)? => Ok(None),
         holds => Ok(holds),
     }

@@ -1,5 +1,5 @@
 -- A number that is read has its bound.
-use Rattle.std.proofs.Common.{◌≡◌, ℕ, ◌≤◌, ◌==◌, ◌&&◌, not, Bool, true, false, Option, Some, None, cond, nat_le, IfSome, List, refl}
+use Rattle.std.proofs.Common.{◌≡◌, ℕ, ◌≤◌, ◌==◌, ◌&&◌, not, Bool, true, false, Option, Some, None, cond, nat_le, IfSome, List, refl, subst, sym}
 use Rattle.std.specs.Prelude.{option_and_then}
 use Rattle.std.specs.List.{list_all}
 use Rattle.text_bytes.specs.Names.{minus, is_whitespace}
@@ -28,9 +28,12 @@ natural_below : (negative : Bool) (size : Option ℕ) (most : ℕ) → IfSome si
 natural_below negative None most h = tt
 natural_below negative (Some n) most h = picked n most (negative && not (n == 0)) h
 
-pub number_below : (base : Base) (most : ℕ) (text : List ℕ) → IfSome (number_in base most text) (λ n. n ≤ most)
+bounded : (base : Base) (most : ℕ) (text : List ℕ) → IfSome (number_in base most text) (λ n. n ≤ most)
 unfolding number_in
-number_below base most text =
+bounded base most text =
     let bare = skip_while is_whitespace text in
     natural_below (begins_with minus bare) (size_in base most bare) most
     (digits_below (written base (unsigned bare)).base most (written base (unsigned bare)).digits)
+
+pub number_below : (base : Base) (most : ℕ) (text : List ℕ) (n : ℕ) → Some n ≡ number_in base most text → n ≤ most
+number_below base most text n e = subst (λ (r : Option ℕ). IfSome r (λ m. m ≤ most)) (sym e) (bounded base most text)

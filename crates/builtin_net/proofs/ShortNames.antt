@@ -13,13 +13,14 @@ use Rattle.builtin_net.specs.Allowed.{interface}
 use Rattle.builtin_net.specs.Buses.{by_ccw, by_netdevsim, by_platform, by_vio, by_xen}
 use Rattle.builtin_net.specs.Function.{function}
 use Rattle.builtin_net.specs.Identity.{is_identified, naming}
-use Rattle.builtin_net.specs.Names.{Given, all_names, alone, board_text, by_address, by_buses, by_carrier, by_function, by_kernels, by_pci, by_tree}
+use Rattle.builtin_net.specs.Names.{Given, all_names, alone, board_text, by_address, by_buses, by_carrier, by_function, by_kernels, by_pci}
 use Rattle.builtin_net.specs.Names.{carrier, giving, label_of, of_function, of_named, own_pci, path_text, prefixed, slot_text, suffix_of, tail}
 use Rattle.builtin_net.specs.Names.{with_suffix, with_tail}
 use Rattle.builtin_net.specs.NetId.{names_of, needs, net_id}
 use Rattle.builtin_net.specs.Port.{port_text}
 use Rattle.builtin_net.specs.Prefixes.{prefix_text}
 use Rattle.builtin_net.specs.Slots.{pci_above, slot_of}
+use Rattle.builtin_net.specs.Trees.{by_tree}
 use Rattle.builtin_net.specs.Virtual.{Named, named_function}
 use Rattle.builtin_net.specs.declared.carriers.Bus.{Bus}
 use Rattle.builtin_net.specs.declared.carriers.Bus.TheVariants.{Usb, Bcma}

@@ -1,5 +1,5 @@
 -- Functions of PCI, by their names: `DOMAIN:BUS:SLOT.FUNCTION`.
-use Rattle.std.specs.Prelude.{ℕ, ◌+◌, ◌*◌, ◌==◌, ◌&&◌, Bool, false, not, nat_le, [], ◌++◌, codes, decimal, slice_get, Option, Some, None, option_map}
+use Rattle.std.specs.Prelude.{ℕ, ◌+◌, ◌*◌, ◌==◌, Bool, false, nat_le, [], ◌++◌, codes, decimal, slice_get, Option, Some, None, option_map}
 use Rattle.std.specs.Prelude.{option_and_then, if◌then◌else◌}
 use Rattle.std.specs.Option.{option_map_or}
 use Rattle.text_bytes.specs.Names.{colon, dot}
@@ -8,11 +8,10 @@ use Rattle.link_files.specs.Booleans.{is_yes}
 use Rattle.text_bytes.specs.Text.{Text}
 use Rattle.device_core.specs.Values.{DeviceValue, EventValue}
 use Rattle.builtin_devices.specs.Devices.{kernel_of}
-use Rattle.builtin_devices.specs.Files.{file_at}
 use Rattle.builtin_devices.specs.Numbers.{bytes_of, number_in}
 use Rattle.builtin_devices.specs.declared.numbers.Base.TheVariants.{Decimal, Hexadecimal}
 use Rattle.builtin_net.specs.Allowed.{read}
-use Rattle.builtin_net.specs.Words.{most_number}
+use Rattle.builtin_net.specs.Words.{file_of, most_number}
 use Rattle.builtin_net.specs.declared.allowed.Attribute.TheVariants.{AriEnabled}
 use Rattle.builtin_net.specs.declared.functions.Function.{Function}
 
@@ -38,42 +37,19 @@ function_of name =
 abbrev pub with_ari : Function → Function
 with_ari f = record f { function = f.function + 8 * f.slot }
 
--- whether a device says that its card counts so
-abbrev pub has_ari : DeviceValue → Bool
-has_ari pci = option_map_or is_yes (read pci AriEnabled) false
-
--- the function that a device is, by its name
+-- the function that a device is, by its name, and by whether it says that its card counts so
 unfoldable pub function : DeviceValue → Option Function
-function pci = if has_ari pci then option_map with_ari (function_of (kernel_of pci)) else function_of (kernel_of pci)
+function pci = if option_map_or is_yes (read pci AriEnabled) false then option_map with_ari (function_of (kernel_of pci)) else function_of (kernel_of pci)
 
--- the bytes of the configuration of a function
+-- the digits of the bytes of the configuration of a function
 abbrev pub config : EventValue → DeviceValue → Option Text
-config event pci = file_at event (pci.path ++ codes "/config")
+config event pci = file_of event pci (codes "/config")
 
--- where the type of the header is in a configuration
-abbrev pub header_place : ℕ
-header_place = 14
-
--- the least type of a header of a card with several functions
-abbrev pub several_type : ℕ
-several_type = 128
-
--- the type of the header of a configuration
-abbrev pub header_type : Text → Option ℕ
-header_type digits = option_and_then (λ bytes. slice_get bytes header_place) (bytes_of digits)
-
--- whether a function reports that its card has several
+-- whether a function reports that its card has several: the type of the header, byte 14 of its configuration, is 128 or
+-- more
 unfoldable pub is_several : EventValue → DeviceValue → Bool
-is_several event pci = option_map_or (nat_le several_type) (option_and_then header_type (config event pci)) false
+is_several event pci = option_map_or (nat_le 128) (option_and_then (λ bytes. slice_get bytes 14) (option_and_then bytes_of (config event pci))) false
 
 -- the domain, which is left out if it is the first
 abbrev pub domain_text : Function → Text
 domain_text f = if f.domain == 0 then [] else codes "P" ++ decimal f.domain
-
--- bus and slot
-abbrev pub place_text : Function → Text
-place_text f = codes "p" ++ decimal f.bus ++ codes "s" ++ decimal f.slot
-
--- the function, which is left out if it is the first and the only one
-abbrev pub function_text : Function → Bool → Text
-function_text f several = if f.function == 0 && not several then [] else codes "f" ++ decimal f.function

@@ -29,13 +29,9 @@ is_link text = is_some (index_in text) || is_below_zero AsWritten (2 ^ 31) text
 unfoldable pub is_identified : EventValue → (interface : DeviceValue) → Bool
 is_identified event interface = is_some (index event) && option_map_or is_link (read interface Iflink) false
 
--- the index of the interface that an interface is stacked on
-abbrev pub link : (interface : DeviceValue) → Option ℕ
-link interface = option_and_then index_in (read interface Iflink)
-
--- whether an interface is not stacked on another
+-- whether an interface is not stacked on another: the index that it gives of such a one is its own
 unfoldable pub is_alone : EventValue → (interface : DeviceValue) → Bool
-is_alone event interface = option_map_or (λ own. is_number own (link interface)) (index event) false
+is_alone event interface = option_map_or (λ own. is_number own (option_and_then index_in (read interface Iflink))) (index event) false
 
 -- how names of an interface begin, if it has some
 unfoldable pub naming : EventValue → (interface : DeviceValue) → Option Prefix

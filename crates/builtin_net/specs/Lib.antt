@@ -1,10 +1,8 @@
 pub mod Words
 pub mod Allowed
 pub mod Prefixes
-pub mod Address
 pub mod Function
 pub mod Port
-pub mod OnBoard
 pub mod Slots
 pub mod Virtual
 pub mod Usb

@@ -1,27 +1,28 @@
 -- The names of an interface.
-use Rattle.std.specs.Prelude.{◌||◌, true, false, not, List, [], ◌∷◌, ◌++◌, codes, decimal, length, nat_le}
+use Rattle.std.specs.Prelude.{ℕ, ◌^◌, ◌==◌, ◌&&◌, ◌||◌, true, false, not, List, [], ◌∷◌, ◌++◌, codes, decimal, length, nat_le, nat_lt}
 use Rattle.std.specs.Prelude.{Option, Some, None, option_map, option_and_then, is_some, if◌then◌else◌}
 use Rattle.std.specs.Bool.{then_some}
-use Rattle.std.specs.Option.{option_map_or}
+use Rattle.std.specs.Option.{option_map_or, option_or}
+use Rattle.text_bytes.specs.Names.{colon, dot, minus}
 use Rattle.text_bytes.specs.Texts.{is_empty}
 use Rattle.text_bytes.specs.Text.{Text}
 use Rattle.text_tables.specs.Pairs.{Pair}
 use Rattle.device_core.specs.Values.{DeviceValue, EventValue}
 use Rattle.builtin_devices.specs.Devices.{above, is_of, kernel_of}
 use Rattle.builtin_devices.specs.Numbers.{is_number}
-use Rattle.builtin_net.specs.Address.{address_digits}
+use Rattle.builtin_devices.specs.Fields.{marked_digits}
 use Rattle.builtin_net.specs.Allowed.{number, read}
 use Rattle.builtin_net.specs.Buses.{by_ccw, by_netdevsim, by_platform, by_vio, by_xen, parent_after_virtio}
-use Rattle.builtin_net.specs.Function.{domain_text, function, function_text, is_several, place_text}
+use Rattle.builtin_net.specs.Function.{domain_text, function, is_several}
 use Rattle.builtin_net.specs.Needs.{address_needs, config_needs, port_needs, slot_needs, tree_needs}
-use Rattle.builtin_net.specs.OnBoard.{board_number, label}
 use Rattle.builtin_net.specs.Port.{port_text}
-use Rattle.builtin_net.specs.Prefixes.{is_ethernet, is_infiniband, prefix_text}
+use Rattle.builtin_net.specs.Prefixes.{is_infiniband, prefix_text}
 use Rattle.builtin_net.specs.Slots.{pci_above, slot_of}
-use Rattle.builtin_net.specs.Trees.{tree_text}
+use Rattle.builtin_net.specs.Trees.{by_tree}
 use Rattle.builtin_net.specs.Usb.{bcma_suffix, usb_suffix}
 use Rattle.builtin_net.specs.Virtual.{Named, named_function}
-use Rattle.builtin_net.specs.declared.allowed.Attribute.TheVariants.{AddrAssignType, Address}
+use Rattle.builtin_net.specs.Words.{is_printable}
+use Rattle.builtin_net.specs.declared.allowed.Attribute.TheVariants.{AcpiIndex, AddrAssignType, Address, Index, Label}
 use Rattle.builtin_net.specs.declared.carriers.Bus.{Bus}
 use Rattle.builtin_net.specs.declared.carriers.Bus.TheVariants.{Usb, Bcma}
 use Rattle.builtin_net.specs.declared.functions.Function.{Function}
@@ -50,6 +51,11 @@ unfoldable pub prefixed : (key prefix : Text) → Option Text → List Pair
 prefixed key prefix None = []
 prefixed key prefix (Some text) = if nat_le (length (prefix ++ text)) 127 then (key, prefix ++ text) ∷ [] else []
 
+-- The twelve lower case digits of an address of six bytes: six fields of one or two digits with `:` or with `-` in
+-- between, or three of one to four digits with `.`.
+abbrev pub address_digits : Text → Option Text
+address_digits text = option_or (marked_digits colon 6 2 text) (option_or (marked_digits minus 6 2 text) (marked_digits dot 3 4 text))
+
 -- the digits of an address that stays, for an interface that is not of InfiniBand
 unfoldable pub lasting_address : Prefix → (interface : DeviceValue) → Option Text
 lasting_address prefix interface =
@@ -60,17 +66,14 @@ lasting_address prefix interface =
 abbrev pub by_address : Prefix → (interface : DeviceValue) → Option Text
 by_address prefix interface = option_map (λ digits. codes "x" ++ digits) (lasting_address prefix interface)
 
--- the name by a device tree, which only Ethernet has
-abbrev pub by_tree : EventValue → Prefix → Option Text
-by_tree event prefix = if is_ethernet prefix then tree_text event else None
-
--- what follows the place or the slot of a function: the function, the port and a suffix
+-- what follows the place or the slot of a function: the function, unless it is the first and the only one, the port and a
+-- suffix
 abbrev pub tail : EventValue → (pci : DeviceValue) → Function → (port suffix : Text) → Text
-tail event pci f port suffix = function_text f (is_several event pci) ++ port ++ suffix
+tail event pci f port suffix = (if f.function == 0 && not (is_several event pci) then [] else codes "f" ++ decimal f.function) ++ port ++ suffix
 
 -- the name by the place of a function
 abbrev pub path_text : Function → (tail : Text) → Text
-path_text f tail = domain_text f ++ place_text f ++ tail
+path_text f tail = domain_text f ++ codes "p" ++ decimal f.bus ++ codes "s" ++ decimal f.slot ++ tail
 
 -- the name by the slot of a function
 abbrev pub slot_text : Function → (tail : Text) → Slot → Text
@@ -96,6 +99,10 @@ of_function event prefix interface pci suffix f =
 unfoldable pub by_function : EventValue → Prefix → (interface pci : DeviceValue) → (suffix : Text) → Given
 by_function event prefix interface pci suffix = option_map_or (of_function event prefix interface pci suffix) (function pci) (giving [])
 
+-- the number of a function on board: by ACPI, else by the table of the firmware; it has 16 bits
+unfoldable pub board_number : DeviceValue → Option ℕ
+board_number pci = option_and_then (λ n. then_some (nat_lt n (2 ^ 16)) n) (option_or (number pci AcpiIndex) (number pci Index))
+
 -- the name by the number on board
 unfoldable pub board_text : Prefix → (interface pci : DeviceValue) → (suffix : Text) → Option Text
 board_text prefix interface pci suffix =
@@ -106,9 +113,9 @@ board_text prefix interface pci suffix =
 abbrev pub own_pci : EventValue → Option DeviceValue
 own_pci event = option_and_then (λ device. then_some (is_of (codes "pci") None device) device) (parent_after_virtio event)
 
--- the label of a function, unless it is a virtual one
+-- the label of a function, if it may be part of a name, unless the function is a virtual one
 abbrev pub label_of : (pci : DeviceValue) → (suffix : Text) → Option Text
-label_of pci suffix = if is_empty suffix then label pci else None
+label_of pci suffix = option_and_then (λ text. then_some (is_empty suffix && is_printable text) text) (read pci Label)
 
 -- the label of a function, and the name by its number on board
 abbrev pub on_board : Prefix → (interface pci : DeviceValue) → (suffix : Text) → Given

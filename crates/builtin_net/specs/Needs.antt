@@ -1,5 +1,5 @@
 -- What a block would have to report for the names of an interface: what net_id asks for and each such device has.
-use Rattle.std.specs.Prelude.{◌==◌, ◌||◌, ◌&&◌, Bool, false, not, List, [], ◌∷◌, ◌++◌, codes, Option, None, is_some, if◌then◌else◌}
+use Rattle.std.specs.Prelude.{◌==◌, ◌||◌, ◌&&◌, Bool, false, not, List, [], ◌∷◌, ◌++◌, codes, None, is_some, if◌then◌else◌}
 use Rattle.std.specs.Option.{option_map_or}
 use Rattle.text_bytes.specs.Text.{Text}
 use Rattle.text_tables.specs.Pairs.{value_of}
@@ -57,22 +57,17 @@ config_needs event pci f has_port =
     let is_asked = f.function == 0 || has_port && asks_bridge event pci in
     when (is_asked && not (is_some (config event pci))) (codes "config")
 
--- whether there is a device, and it lacks what says whether it is a bridge
-abbrev pub lacks_modalias : Option DeviceValue → Bool
-lacks_modalias device = option_map_or (λ d. lacks d Modalias) device false
-
--- the same for the device at which the search for a slot ends: a function of System z is not asked
-abbrev pub lacks_at_end : Option DeviceValue → Bool
-lacks_at_end device = option_map_or (λ d. lacks d Modalias && not (is_some (read d FunctionId))) device false
-
--- for what the firmware gives: whether the device above is a bridge
+-- for what the firmware gives: what says whether the device above is a bridge
 abbrev pub firmware_needs : EventValue → (pci : DeviceValue) → List Text
-firmware_needs event pci = when (not (is_some (firmware_number pci)) && lacks_modalias (pci_above event pci)) (codes "modalias")
+firmware_needs event pci =
+    when (not (is_some (firmware_number pci)) && option_map_or (λ above. lacks above Modalias) (pci_above event pci) false) (codes "modalias")
 
--- for the slots of the bus: whether the device is a bridge at which the search ends, and the slots
+-- for the slots of the bus: what says whether the device at which the search ends is a bridge, unless it is a function of
+-- System z, and the slots
 abbrev pub bus_needs : EventValue → (pci : DeviceValue) → List Text
 bus_needs event pci =
-    when (lacks_at_end (search_end event pci)) (codes "modalias") ++ when (not (is_described event slots_folder)) (codes "slots")
+    when (option_map_or (λ end. lacks end Modalias && not (is_some (read end FunctionId))) (search_end event pci) false) (codes "modalias")
+    ++ when (not (is_described event slots_folder)) (codes "slots")
 
 -- for the slot: the slots of the bus are asked if the firmware gives none
 abbrev pub slot_needs : EventValue → (pci : DeviceValue) → List Text

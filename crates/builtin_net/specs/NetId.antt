@@ -1,11 +1,12 @@
 -- The outcome of net_id.
-use Rattle.std.specs.Prelude.{List, [], ◌++◌, Option, option_and_then, if◌then◌else◌}
+use Rattle.std.specs.Prelude.{List, [], ◌++◌, codes, map, nat_eq, Option, Some, None, option_and_then, if◌then◌else◌}
+use Rattle.std.specs.Char.{to_ascii_uppercase}
+use Rattle.std.specs.List.{starts_with}
 use Rattle.std.specs.Option.{option_map_or}
 use Rattle.text_bytes.specs.Text.{Text}
 use Rattle.text_tables.specs.Pairs.{Pair}
 use Rattle.device_core.specs.Values.{DeviceValue, EventValue}
 use Rattle.builtin_devices.specs.Outcomes.{OutcomeValue, failing, needs_of, succeeding}
-use Rattle.builtin_net.specs.Address.{maker_lookup}
 use Rattle.builtin_net.specs.Allowed.{interface}
 use Rattle.builtin_net.specs.Identity.{is_identified, naming}
 use Rattle.builtin_net.specs.Names.{Given, all_names, giving, lasting_address}
@@ -26,7 +27,11 @@ net_id event env =
     let i = interface event env in
     if is_identified event i then succeeding (names_of event i).properties (needs event i) else failing (needs event i)
 
--- what the hardware database is asked: who made an interface, by its address
+-- what the hardware database is asked for an address: who made the interface; nothing if the first three bytes are 0
+abbrev pub maker_lookup : (digits : Text) → Option Text
+maker_lookup digits = if starts_with nat_eq digits (codes "000000") then None else Some (codes "OUI:" ++ map to_ascii_uppercase digits)
+
+-- what it is asked for an interface that has names
 unfoldable pub lookup : EventValue → (env : List Pair) → Option Text
 lookup event env =
     let i = interface event env in

@@ -1,7 +1,7 @@
 -- Which interfaces have names, and how these begin.
 use Rattle.std.specs.Prelude.{ℕ, ◌==◌, Bool, true, false, codes, Option, Some, None, if◌then◌else◌}
 use Rattle.text_bytes.specs.Text.{Text}
-use Rattle.text_tables.specs.Texts.{same_text}
+use Rattle.builtin_devices.specs.Devices.{is_text}
 use Rattle.builtin_net.specs.declared.prefixes.Prefix.{Prefix}
 use Rattle.builtin_net.specs.declared.prefixes.Prefix.TheVariants.{Ethernet, Wireless, Modem, InfiniBand, SerialLine}
 
@@ -13,15 +13,11 @@ prefix_text Modem = codes "ww"
 prefix_text InfiniBand = codes "ib"
 prefix_text SerialLine = codes "sl"
 
--- an interface of Ethernet by its type
-abbrev pub ethernet_prefix : Option Text → Prefix
-ethernet_prefix None = Ethernet
-ethernet_prefix (Some kind) = if same_text kind (codes "wlan") then Wireless else (if same_text kind (codes "wwan") then Modem else Ethernet)
-
--- by the number of the hardware, and the type
-unfoldable pub prefix_of : ℕ → Option Text → Option Prefix
+-- by the number of the hardware (`type`), and for Ethernet by the type that the kernel reported; interfaces of other
+-- hardware have no names
+unfoldable pub prefix_of : ℕ → (kind : Option Text) → Option Prefix
 prefix_of hardware kind =
-    if hardware == 1 then Some (ethernet_prefix kind)
+    if hardware == 1 then Some (if is_text (codes "wlan") kind then Wireless else if is_text (codes "wwan") kind then Modem else Ethernet)
     else if hardware == 32 then Some InfiniBand
     else if hardware == 256 then Some SerialLine
     else None

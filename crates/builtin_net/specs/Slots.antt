@@ -25,13 +25,11 @@ use Rattle.builtin_net.specs.declared.slots.Slot.{Slot}
 abbrev pub firmware_number : DeviceValue → Option ℕ
 firmware_number pci = positive (number pci Sun)
 
--- whether a modalias is that of a bridge: it is of PCI, and the last `s` in it is followed by `c04`
-unfoldable pub is_bridge_alias : Text → Bool
-is_bridge_alias alias = starts_with nat_eq alias (codes "pci:") && starts_with nat_eq (after_last (λ b. b == 115) alias) (codes "c04")
-
--- whether a device is a bridge
+-- whether a device is a bridge, by its modalias: it is of PCI, and the last `s` in it is followed by `c04`
 unfoldable pub is_bridge : DeviceValue → Bool
-is_bridge pci = option_map_or is_bridge_alias (read pci Modalias) false
+is_bridge pci =
+    option_map_or (λ alias. starts_with nat_eq alias (codes "pci:") && starts_with nat_eq (after_last (λ b. b == 115) alias) (codes "c04"))
+    (read pci Modalias) false
 
 -- the nearest device of PCI above another
 abbrev pub pci_above : EventValue → DeviceValue → Option DeviceValue
@@ -59,37 +57,27 @@ slot_files event = files_below event slots_folder
 unfoldable pub is_described : EventValue → (folder : Text) → Bool
 is_described event folder = is_some (file_at event folder) || not (is_empty (files_below event folder))
 
--- what comes before a slash, if `address` comes after it
-abbrev pub addressed : Option Pair → Option Text
-addressed None = None
-addressed (Some parts) = if same_text parts.1 (codes "address") then Some parts.0 else None
-
 -- the name of the slot whose file `NAME/address` says what is in it
 unfoldable pub slot_name : (path : Text) → Option Text
-slot_name path = addressed (split_once slash path)
+slot_name path = option_and_then (λ parts. then_some (same_text parts.1 (codes "address")) parts.0) (split_once slash path)
 
--- the number of the slot that has such a file, by its name
-abbrev pub slot_number : (path : Text) → Option ℕ
-slot_number path = positive (option_and_then (number_in AsWritten most_number) (slot_name path))
-
--- the number of a slot, if its file says that it holds the device with this name: its address is the beginning of the
--- name
+-- the number of a slot by its name, if its file says that it holds the device with this name: its address is the
+-- beginning of the device's name
 unfoldable pub number_holding : (kernel : Text) → Pair → Option ℕ
-number_holding kernel file = if starts_with nat_eq kernel file.1 then slot_number file.0 else None
+number_holding kernel file =
+    if starts_with nat_eq kernel file.1 then positive (option_and_then (number_in AsWritten most_number) (slot_name file.0)) else None
 
 -- the number of the slot that holds a device
 unfoldable pub number_by_place : EventValue → DeviceValue → Option ℕ
 number_by_place event pci = first_given (number_holding (kernel_of pci)) (slot_files event)
 
--- whether a name is this number in eight hexadecimal digits with lower case letters
-unfoldable pub is_identity : ℕ → Text → Bool
-is_identity n name =
+-- whether a file is that of the slot whose name is this number in eight hexadecimal digits with lower case letters
+unfoldable pub is_slot_of : ℕ → Pair → Bool
+is_slot_of n file =
+    option_map_or (λ name.
     length name == 8 && list_all is_ascii_hexdigit name && not (list_any is_ascii_uppercase name)
-    && is_number n (number_in Hexadecimal most_number name)
-
--- whether a file is that of the slot of this number
-abbrev pub is_slot_of : ℕ → Pair → Bool
-is_slot_of n file = option_map_or (is_identity n) (slot_name file.0) false
+    && is_number n (number_in Hexadecimal most_number name))
+    (slot_name file.0) false
 
 -- the slot of a function of System z, whose number has a slot of its own; a name by it leaves the domain out
 unfoldable pub slot_by_identity : EventValue → Text → Option Slot

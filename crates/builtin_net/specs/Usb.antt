@@ -35,10 +35,6 @@ core_in name =
     option_and_then (λ parts. option_and_then (λ bus. number_in Decimal most_number parts.1) (number_in Decimal most_number parts.0))
     (option_and_then (split_once colon) (following (codes "bcma") name))
 
--- a core, the first of which is not reported
-abbrev pub core_text : ℕ → Text
-core_text core = if core == 0 then [] else codes "b" ++ decimal core
-
--- the end of names by a core of bcma
+-- the end of names by a core of bcma, the first of which is not reported
 unfoldable pub bcma_suffix : Text → Option Text
-bcma_suffix name = option_map core_text (core_in name)
+bcma_suffix name = option_map (λ core. if core == 0 then [] else codes "b" ++ decimal core) (core_in name)

@@ -1,5 +1,5 @@
 -- Parts of texts that several names need.
-use Rattle.std.specs.Prelude.{ℕ, ◌^◌, ◌-◌, ◌==◌, Bool, not, ◌&&◌, List, [], ◌∷◌, take, drop, Option, Some, None, if◌then◌else◌}
+use Rattle.std.specs.Prelude.{ℕ, ◌^◌, ◌-◌, ◌==◌, Bool, not, ◌&&◌, List, [], ◌∷◌, ◌++◌, take, drop, Option, Some, None, option_map, if◌then◌else◌}
 use Rattle.std.specs.List.{list_any, prefix_len}
 use Rattle.std.specs.Option.{option_or}
 use Rattle.std.specs.Str.{is_utf8}
@@ -7,22 +7,22 @@ use Rattle.text_bytes.specs.Escapes.{is_control}
 use Rattle.text_bytes.specs.Numbers.{decimal_below, is_digit}
 use Rattle.text_bytes.specs.Text.{Text}
 use Rattle.text_tables.specs.Pairs.{Pair}
+use Rattle.device_core.specs.Values.{DeviceValue, EventValue}
+use Rattle.builtin_devices.specs.Files.{file_at}
 
 -- the greatest number of 32 bits
 abbrev pub most_number : ℕ
 most_number = 2 ^ 32 - 1
 
--- the digits that a text begins with
-abbrev pub leading_digits : Text → Text
-leading_digits text = take (prefix_len is_digit text) text
+-- the number of 32 bits that the digits at the start of a text write, and what follows them
+unfoldable pub leading_number : Text → Option (ℕ × Text)
+leading_number text =
+    let count = prefix_len is_digit text in
+    option_map (λ n. (n, drop count text)) (decimal_below (2 ^ 32) (take count text))
 
--- what follows the digits that a text begins with
-abbrev pub after_digits : Text → Text
-after_digits text = drop (prefix_len is_digit text) text
-
--- the number of 32 bits that these digits write
-unfoldable pub leading_number : Text → Option ℕ
-leading_number text = decimal_below (2 ^ 32) (leading_digits text)
+-- what the file with this name in the folder of a device says; for a link, the path to which it leads
+abbrev pub file_of : EventValue → DeviceValue → (name : Text) → Option Text
+file_of event device name = file_at event (device.path ++ name)
 
 -- whether a text may be part of a name: UTF-8 without control characters
 unfoldable pub is_printable : Text → Bool

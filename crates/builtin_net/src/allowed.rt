@@ -45,47 +45,29 @@ pub(crate) enum Attribute {
 const PERMISSION_OF_ALL: &[u8] = b"ID_NET_NAME_ALLOW";
 
 impl Attribute {
-    /// Where it is below the folder of its device.
-    pub(crate) fn name(self) -> &'static [u8]
-        ensures { result.now ≡ attribute_name self }
+    /// Where it is below the folder of its device, and the property that says whether names may use it.
+    fn texts(self) -> (&'static [u8], &'static [u8])
+        ensures name { result.0.now ≡ attribute_name self }
+        ensures permission { result.1.now ≡ permission self }
     {
         match self {
-            Attribute::Iflink => b"iflink",
-            Attribute::Hardware => b"type",
-            Attribute::AddrAssignType => b"addr_assign_type",
-            Attribute::Address => b"address",
-            Attribute::PhysPortName => b"phys_port_name",
-            Attribute::DevPort => b"dev_port",
-            Attribute::DevId => b"dev_id",
-            Attribute::AriEnabled => b"ari_enabled",
-            Attribute::AcpiIndex => b"acpi_index",
-            Attribute::Index => b"index",
-            Attribute::Label => b"label",
-            Attribute::Sun => b"firmware_node/sun",
-            Attribute::FunctionId => b"function_id",
-            Attribute::Modalias => b"modalias",
-        }
-    }
-
-    /// The property that says whether names may use it.
-    fn permission(self) -> &'static [u8]
-        ensures { result.now ≡ permission self }
-    {
-        match self {
-            Attribute::Iflink => b"ID_NET_NAME_ALLOW_IFLINK",
-            Attribute::Hardware => b"ID_NET_NAME_ALLOW_TYPE",
-            Attribute::AddrAssignType => b"ID_NET_NAME_ALLOW_ADDR_ASSIGN_TYPE",
-            Attribute::Address => b"ID_NET_NAME_ALLOW_ADDRESS",
-            Attribute::PhysPortName => b"ID_NET_NAME_ALLOW_PHYS_PORT_NAME",
-            Attribute::DevPort => b"ID_NET_NAME_ALLOW_DEV_PORT",
-            Attribute::DevId => b"ID_NET_NAME_ALLOW_DEV_ID",
-            Attribute::AriEnabled => b"ID_NET_NAME_ALLOW_ARI_ENABLED",
-            Attribute::AcpiIndex => b"ID_NET_NAME_ALLOW_ACPI_INDEX",
-            Attribute::Index => b"ID_NET_NAME_ALLOW_INDEX",
-            Attribute::Label => b"ID_NET_NAME_ALLOW_LABEL",
-            Attribute::Sun => b"ID_NET_NAME_ALLOW_FIRMWARE_NODE/SUN",
-            Attribute::FunctionId => b"ID_NET_NAME_ALLOW_FUNCTION_ID",
-            Attribute::Modalias => b"ID_NET_NAME_ALLOW_MODALIAS",
+            Attribute::Iflink => (b"iflink", b"ID_NET_NAME_ALLOW_IFLINK"),
+            Attribute::Hardware => (b"type", b"ID_NET_NAME_ALLOW_TYPE"),
+            Attribute::AddrAssignType => (
+                b"addr_assign_type",
+                b"ID_NET_NAME_ALLOW_ADDR_ASSIGN_TYPE",
+            ),
+            Attribute::Address => (b"address", b"ID_NET_NAME_ALLOW_ADDRESS"),
+            Attribute::PhysPortName => (b"phys_port_name", b"ID_NET_NAME_ALLOW_PHYS_PORT_NAME"),
+            Attribute::DevPort => (b"dev_port", b"ID_NET_NAME_ALLOW_DEV_PORT"),
+            Attribute::DevId => (b"dev_id", b"ID_NET_NAME_ALLOW_DEV_ID"),
+            Attribute::AriEnabled => (b"ari_enabled", b"ID_NET_NAME_ALLOW_ARI_ENABLED"),
+            Attribute::AcpiIndex => (b"acpi_index", b"ID_NET_NAME_ALLOW_ACPI_INDEX"),
+            Attribute::Index => (b"index", b"ID_NET_NAME_ALLOW_INDEX"),
+            Attribute::Label => (b"label", b"ID_NET_NAME_ALLOW_LABEL"),
+            Attribute::Sun => (b"firmware_node/sun", b"ID_NET_NAME_ALLOW_FIRMWARE_NODE/SUN"),
+            Attribute::FunctionId => (b"function_id", b"ID_NET_NAME_ALLOW_FUNCTION_ID"),
+            Attribute::Modalias => (b"modalias", b"ID_NET_NAME_ALLOW_MODALIAS"),
         }
     }
 }
@@ -105,7 +87,7 @@ fn permits(own: Option<&[u8]>, all: Option<&[u8]>) -> bool
 fn is_allowed(env: &Pairs<'_>, attribute: Attribute) -> bool
     ensures { result ≡ is_allowed env.now attribute }
 {
-    permits(env.get(attribute.permission()), env.get(PERMISSION_OF_ALL))
+    permits(env.get(attribute.texts().1), env.get(PERMISSION_OF_ALL))
 }
 
 /// Whether, by current properties, names may use an attribute.
@@ -113,7 +95,7 @@ fn is_allowed(env: &Pairs<'_>, attribute: Attribute) -> bool
 fn is_allowed_now(env: &CowPairs<'_>, attribute: Attribute) -> bool
     ensures { result ≡ is_allowed env.now attribute }
 {
-    permits(env.get(attribute.permission()), env.get(PERMISSION_OF_ALL))
+    permits(env.get(attribute.texts().1), env.get(PERMISSION_OF_ALL))
 }
 
 /// An attribute of a device, unless names may not use it.
@@ -122,7 +104,7 @@ pub(crate) fn read<'a>(device: &Device<'a>, attribute: Attribute) -> Option<&'a 
     ensures { option_map (λ t. t.now) result ≡ read device.now attribute }
 {
     if is_allowed(device.env(), attribute) {
-        device.attrs().get(attribute.name())
+        device.attrs().get(attribute.texts().0)
     } else {
         None
     }
@@ -144,7 +126,7 @@ pub(crate) fn number(device: &Device<'_>, attribute: Attribute) -> Option<u64>
 pub(crate) fn lacks(device: &Device<'_>, attribute: Attribute) -> bool
     ensures { result ≡ lacks device.now attribute }
 {
-    is_allowed(device.env(), attribute) && device.attrs().get(attribute.name()).is_none()
+    is_allowed(device.env(), attribute) && device.attrs().get(attribute.texts().0).is_none()
 }
 
 /// An attribute of the event device, unless its current properties forbid it.
@@ -157,7 +139,7 @@ pub(crate) fn read_own<'a>(
     ensures { option_map (λ t. t.now) result ≡ read (interface event.now env.now) attribute }
 {
     if is_allowed_now(env, attribute) {
-        event.device().attrs().get(attribute.name())
+        event.device().attrs().get(attribute.texts().0)
     } else {
         None
     }
@@ -179,5 +161,5 @@ pub(crate) fn own_number(event: &Event<'_>, env: &CowPairs<'_>, attribute: Attri
 pub(crate) fn lacks_own(event: &Event<'_>, env: &CowPairs<'_>, attribute: Attribute) -> bool
     ensures { result ≡ lacks (interface event.now env.now) attribute }
 {
-    is_allowed_now(env, attribute) && event.device().attrs().get(attribute.name()).is_none()
+    is_allowed_now(env, attribute) && event.device().attrs().get(attribute.texts().0).is_none()
 }

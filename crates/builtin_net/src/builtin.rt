@@ -1,13 +1,13 @@
 //! The builtin.
-ghost use Rattle.std.specs.Prelude.{◌≡◌, option_map, IfOk};
+ghost use Rattle.std.specs.Prelude.{◌≡◌, IfOk};
 ghost use Rattle.builtin_net.specs.Allowed.{interface};
 ghost use Rattle.builtin_net.specs.NetId.{lookup, names_of, needs, net_id};
 
-use crate::address::maker_lookup;
 use crate::given::Given;
 use crate::identity::{is_identified, naming};
 use crate::names::{give_names, lasting_address};
 use crate::needs::need_own;
+use crate::words::joined;
 use builtin_devices::{BuiltinOutcome, Devices, NetNames};
 use device_core::Event;
 use std::alloc::{AllocError, Global};
@@ -25,10 +25,11 @@ fn lookup(alloc: Global, event: &Event<'_>, env: &CowPairs<'_>) -> Result<Option
     let Some(digits) = lasting_address(alloc, prefix, event, env)? else {
         return Ok(None);
     };
-    match maker_lookup(alloc, &digits)? {
-        Some(text) => Ok(Some(Bytes::new(text))),
-        None => Ok(None),
+    if digits.starts_with(b"000000") {
+        return Ok(None);
     }
+    let text = joined(alloc, b"OUI:", &digits.to_ascii_uppercase(alloc)?)?;
+    Ok(Some(Bytes::new(text)))
 }
 
 /// What an interface is given, whether or not net_id succeeds.

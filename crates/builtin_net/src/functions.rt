@@ -1,12 +1,11 @@
 //! Functions of PCI, by their names.
-ghost use Rattle.std.specs.Prelude.{◌≡◌, ◌++◌, ◌≤◌, IfOk, IfSome, OnOk, option_map};
-ghost use Rattle.builtin_devices.specs.Numbers.{number_in};
-ghost use Rattle.builtin_net.specs.Function.{config, domain_text, function, function_of, function_text, is_several, with_ari};
+ghost use Rattle.std.specs.Prelude.{◌≡◌, ◌++◌, ◌≤◌, IfOk, IfSome, OnOk};
+ghost use Rattle.builtin_net.specs.Function.{domain_text, function, function_of, is_several};
 ghost use Rattle.builtin_net.specs.Words.{most_number};
 
 use crate::allowed::{Attribute, read};
-use crate::words::{MAX_NUMBER, joined, push_number};
-use builtin_devices::{Base, bytes_of, file_at, number_in};
+use crate::words::{MAX_NUMBER, file_of, push_number};
+use builtin_devices::{Base, bytes_of, number_in};
 use device_core::{Device, Event};
 use link_files::is_yes;
 use std::alloc::{AllocError, Global};
@@ -31,16 +30,8 @@ pub(crate) struct Function {
     pub function: u64,
 }
 
-/// A number of 32 bits.
-fn small_number(base: Base, text: &[u8]) -> Option<u64>
-    ensures value { result ≡ number_in base most_number text.now }
-    ensures small { IfSome result (λ n. n ≤ most_number) }
-{
-    number_in(base, MAX_NUMBER, text)
-}
-
 /// The function that a name gives.
-#[tactic(auto, unfolding(crate::specs::Function::function_of))]
+#[tactic(auto, using(crate::proofs::Bounds::number_below), unfolding(crate::specs::Function::function_of))]
 fn function_of(name: &[u8]) -> Option<Function>
     ensures value { result ≡ function_of name.now }
     ensures slot { IfSome result (λ f. f.slot ≤ most_number) }
@@ -50,26 +41,15 @@ fn function_of(name: &[u8]) -> Option<Function>
     let (bus, place) = split_once(b':', rest)?;
     let (slot, function) = split_once(b'.', place)?;
     Some(Function {
-        domain: small_number(Base::Hexadecimal, domain)?,
-        bus: small_number(Base::Hexadecimal, bus)?,
-        slot: small_number(Base::Hexadecimal, slot)?,
-        function: small_number(Base::Decimal, function)?,
+        domain: number_in(Base::Hexadecimal, MAX_NUMBER, domain)?,
+        bus: number_in(Base::Hexadecimal, MAX_NUMBER, bus)?,
+        slot: number_in(Base::Hexadecimal, MAX_NUMBER, slot)?,
+        function: number_in(Base::Decimal, MAX_NUMBER, function)?,
     })
 }
 
-/// A function numbered as on a card that counts the functions of all its slots as one.
-fn with_ari(f: Function) -> Function
-    requires slot { f.slot ≤ most_number }
-    requires function { f.function ≤ most_number }
-    ensures { result ≡ with_ari f }
-{
-    Function {
-        function: f.function + 8 * f.slot,
-        ..f
-    }
-}
-
-/// The function that a device is.
+/// The function that a device is. On a card that counts the functions of all its slots as one, its number is
+/// eight times that of the slot more.
 #[tactic(auto, unfolding(crate::specs::Function::function))]
 pub(crate) fn function_at(alloc: Global, pci: &Device<'_>) -> Result<Option<Function>, AllocError>
     ensures { IfOk result (λ f. f ≡ function pci.now) }
@@ -79,21 +59,12 @@ pub(crate) fn function_at(alloc: Global, pci: &Device<'_>) -> Result<Option<Func
         return Ok(None);
     };
     match read(pci, Attribute::AriEnabled) {
-        Some(word) if is_yes(word) => Ok(Some(with_ari(function))),
+        Some(word) if is_yes(word) => Ok(Some(Function {
+            function: function.function + 8 * function.slot,
+            ..function
+        })),
         _ => Ok(Some(function)),
     }
-}
-
-/// The bytes of the configuration of a function, in hexadecimal digits.
-pub(crate) fn config<'a>(
-    alloc: Global,
-    event: &Event<'a>,
-    pci: &Device<'_>,
-) -> Result<Option<&'a [u8]>, AllocError>
-    ensures { IfOk result (λ digits. option_map (λ t. t.now) digits ≡ config event.now pci.now) }
-{
-    let path = joined(alloc, pci.path(), b"/config")?;
-    Ok(file_at(event, &path))
 }
 
 /// Whether a function reports that its card has several.
@@ -105,7 +76,7 @@ pub(crate) fn is_several(
 ) -> Result<bool, AllocError>
     ensures { IfOk result (λ several. several ≡ is_several event.now pci.now) }
 {
-    let Some(digits) = config(alloc, event, pci)? else {
+    let Some(digits) = file_of(alloc, event, pci, b"/config")? else {
         return Ok(false);
     };
     let Some(bytes) = bytes_of(alloc, digits)? else {
@@ -125,18 +96,4 @@ pub(crate) fn push_domain(text: &mut Vec<u8>, f: Function) -> Result<(), AllocEr
         return Ok(());
     }
     push_number(text, b"P", f.domain)
-}
-
-/// Appends the function, unless it is the first and the only one.
-pub(crate) fn push_function(
-    text: &mut Vec<u8>,
-    f: Function,
-    several: bool,
-) -> Result<(), AllocError>
-    ensures { OnOk result (text.new.items ≡ text.old.items ++ function_text f several) }
-{
-    if f.function == 0 && !several {
-        return Ok(());
-    }
-    push_number(text, b"f", f.function)
 }

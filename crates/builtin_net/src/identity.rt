@@ -1,12 +1,12 @@
 //! Which interfaces have names.
-ghost use Rattle.std.specs.Prelude.{◌≡◌, option_map};
+ghost use Rattle.std.specs.Prelude.{◌≡◌};
 ghost use Rattle.builtin_net.specs.Allowed.{interface};
-ghost use Rattle.builtin_net.specs.Identity.{index, index_in, is_alone, is_identified, link, naming};
+ghost use Rattle.builtin_net.specs.Identity.{index, index_in, is_alone, is_identified, naming};
 
 use crate::allowed::{Attribute, own_number, read_own};
-use crate::prefixes::{Prefix, prefix_of};
+use crate::prefixes::Prefix;
 use crate::words::positive;
-use builtin_devices::{Base, is_below_zero, is_number, number_in, type_of};
+use builtin_devices::{Base, is_below_zero, is_number, is_text, number_in, type_of};
 use device_core::Event;
 use text_tables::CowPairs;
 
@@ -42,32 +42,35 @@ pub(crate) fn is_identified(event: &Event<'_>, env: &CowPairs<'_>) -> bool
     }
 }
 
-/// The index of the interface that the event device is stacked on.
-fn link(event: &Event<'_>, env: &CowPairs<'_>) -> Option<u64>
-    ensures { result ≡ link (interface event.now env.now) }
-{
-    index_in(read_own(event, env, Attribute::Iflink)?)
-}
-
 /// Whether the event device is not stacked on another interface.
 #[tactic(auto, unfolding(crate::specs::Identity::is_alone))]
 pub(crate) fn is_alone(event: &Event<'_>, env: &CowPairs<'_>) -> bool
     ensures { result ≡ is_alone event.now (interface event.now env.now) }
 {
-    match index(event) {
-        Some(own) => is_number(own, link(event, env)),
+    let Some(own) = index(event) else {
+        return false;
+    };
+    match read_own(event, env, Attribute::Iflink) {
+        Some(link) => is_number(own, index_in(link)),
         None => false,
     }
 }
 
 /// How names of the event device begin, if it has some.
-#[tactic(auto, unfolding(crate::specs::Identity::naming))]
+#[tactic(auto, unfolding(crate::specs::Identity::naming, crate::specs::Prefixes::prefix_of))]
 pub(crate) fn naming(event: &Event<'_>, env: &CowPairs<'_>) -> Option<Prefix>
     ensures { result ≡ naming event.now (interface event.now env.now) }
 {
     if !is_alone(event, env) {
         return None;
     }
-    let hardware = own_number(event, env, Attribute::Hardware)?;
-    prefix_of(hardware, type_of(event.device()))
+    let kind = type_of(event.device());
+    match own_number(event, env, Attribute::Hardware)? {
+        1 if is_text(b"wlan", kind) => Some(Prefix::Wireless),
+        1 if is_text(b"wwan", kind) => Some(Prefix::Modem),
+        1 => Some(Prefix::Ethernet),
+        32 => Some(Prefix::InfiniBand),
+        256 => Some(Prefix::SerialLine),
+        _ => None,
+    }
 }

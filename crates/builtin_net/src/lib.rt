@@ -1,7 +1,6 @@
 //! The builtin net_id of udev (systemd 257): names for network interfaces, by what they are attached to.
 #![tactic(auto)]
 
-mod address;
 mod allowed;
 mod builtin;
 mod bus_names;
@@ -14,7 +13,6 @@ mod identity;
 mod laws;
 mod names;
 mod needs;
-mod on_board;
 mod pci_names;
 mod ports;
 mod prefixes;

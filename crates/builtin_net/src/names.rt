@@ -2,10 +2,10 @@
 ghost use Rattle.std.specs.Prelude.{◌≡◌, ◌++◌, codes, option_map, IfOk, OnOk};
 ghost use Rattle.text_tables.specs.Texts.{with_texts};
 ghost use Rattle.builtin_net.specs.Allowed.{interface};
-ghost use Rattle.builtin_net.specs.Names.{all_names, by_address, by_buses, by_tree, lasting_address, own_names, prefixed};
+ghost use Rattle.builtin_net.specs.Names.{all_names, by_address, by_buses, lasting_address, own_names, prefixed};
 ghost use Rattle.builtin_net.specs.Prefixes.{prefix_text};
+ghost use Rattle.builtin_net.specs.Trees.{by_tree};
 
-use crate::address::address_digits;
 use crate::allowed::{Attribute, own_number, read_own};
 use crate::bus_names::give_by_buses;
 use crate::carriers::{Bus, give_by_carrier};
@@ -13,15 +13,15 @@ use crate::given::{Given, give};
 use crate::needs::{need_address, need_tree};
 use crate::pci_names::give_by_pci;
 use crate::prefixes::Prefix;
-use crate::trees::tree_text;
+use crate::trees::by_tree;
 use crate::words::joined;
-use builtin_devices::{Devices, add_property, is_number};
+use builtin_devices::{Devices, add_property, is_number, marked_digits};
 use device_core::Event;
 use std::alloc::{AllocError, Global};
 use text_bytes::Bytes;
 use text_tables::CowPairs;
 
-/// The digits of an address that stays.
+/// The twelve lower case digits of an address that stays, if it has six bytes.
 #[tactic(auto, unfolding(crate::specs::Names::lasting_address))]
 pub(crate) fn lasting_address(
     alloc: Global,
@@ -34,10 +34,16 @@ pub(crate) fn lasting_address(
     if prefix.is_infiniband() || !is_number(0, own_number(event, env, Attribute::AddrAssignType)) {
         return Ok(None);
     }
-    match read_own(event, env, Attribute::Address) {
-        Some(text) => address_digits(alloc, text),
-        None => Ok(None),
+    let Some(text) = read_own(event, env, Attribute::Address) else {
+        return Ok(None);
+    };
+    if let Some(digits) = marked_digits(alloc, b':', 6, 2, text)? {
+        return Ok(Some(digits));
     }
+    if let Some(digits) = marked_digits(alloc, b'-', 6, 2, text)? {
+        return Ok(Some(digits));
+    }
+    marked_digits(alloc, b'.', 3, 4, text)
 }
 
 /// What names say about the address.
@@ -52,21 +58,6 @@ fn by_address(
     match lasting_address(alloc, prefix, event, env)? {
         Some(digits) => Ok(Some(joined(alloc, b"x", &digits)?)),
         None => Ok(None),
-    }
-}
-
-/// What names say about the device tree.
-fn by_tree(
-    alloc: Global,
-    devices: &Devices<'_>,
-    prefix: Prefix,
-) -> Result<Option<Vec<u8>>, AllocError>
-    ensures { IfOk result (λ text. option_map (λ t. t.items) text ≡ by_tree devices.now prefix) }
-{
-    if prefix.is_ethernet() {
-        tree_text(alloc, devices)
-    } else {
-        Ok(None)
     }
 }
 

@@ -1,17 +1,16 @@
 //! What a block would have to report for the names of an interface, part by part.
-ghost use Rattle.std.specs.Prelude.{◌≡◌, false, option_copied, OnOk};
-ghost use Rattle.std.specs.Option.{option_map_or};
+ghost use Rattle.std.specs.Prelude.{◌≡◌, OnOk};
 ghost use Rattle.text_tables.specs.Texts.{with_texts};
 ghost use Rattle.builtin_net.specs.Allowed.{interface};
 ghost use Rattle.builtin_net.specs.Needs.{address_needs, config_needs, own_needs, port_needs, tree_needs, when};
-ghost use Rattle.builtin_net.specs.Slots.{is_bridge};
 
 use crate::allowed::{Attribute, lacks_own, own_number, read_own};
-use crate::functions::{Function, config};
+use crate::functions::Function;
 use crate::identity::{index, is_alone};
 use crate::prefixes::Prefix;
-use crate::slots::{firmware_number, is_bridge, is_described, pci_above};
+use crate::slots::{firmware_number, is_bridge, is_described};
 use crate::trees::{ALIASES_FOLDER, node_link};
+use crate::words::file_of;
 use builtin_devices::{Devices, is_number, is_of, some_text};
 use device_core::{Device, Event};
 use std::alloc::{AllocError, Global};
@@ -85,7 +84,7 @@ pub(crate) fn need_tree(
     need(
         alloc,
         needs,
-        prefix.is_ethernet() && has_node && !is_described,
+        matches!(prefix, Prefix::Ethernet) && has_node && !is_described,
         b"aliases",
     )
 }
@@ -116,16 +115,6 @@ pub(crate) fn need_port(
     )
 }
 
-/// Whether there is a device, and it is a bridge.
-fn is_bridge_there(device: Option<&Device<'_>>) -> bool
-    ensures { result ≡ option_map_or is_bridge (option_copied device.entry) false }
-{
-    match device {
-        Some(device) => is_bridge(device),
-        None => false,
-    }
-}
-
 /// Adds what is needed for the configuration of a function.
 pub(crate) fn need_config(
     alloc: Global,
@@ -137,8 +126,11 @@ pub(crate) fn need_config(
 ) -> Result<(), AllocError>
     ensures { OnOk result (needs.new ≡ with_texts needs.old (config_needs devices.now pci.now f has_port)) }
 {
-    let below_bridge = is_bridge_there(pci_above(alloc, devices, pci)?);
+    let below_bridge = match devices.above(alloc, b"pci", None, pci.path())? {
+        Some(above) => is_bridge(above),
+        None => false,
+    };
     let asks = f.function == 0 || has_port && firmware_number(pci).is_none() && below_bridge;
-    let is_described = config(alloc, devices.event(), pci)?.is_some();
+    let is_described = file_of(alloc, devices.event(), pci, b"/config")?.is_some();
     need(alloc, needs, asks && !is_described, b"config")
 }

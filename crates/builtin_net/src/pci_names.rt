@@ -1,22 +1,34 @@
 //! The names and the label of an interface of PCI.
-ghost use Rattle.std.specs.Prelude.{◌≡◌, ◌++◌, option_copied, option_map, IfOk, OnOk};
+ghost use Rattle.std.specs.Prelude.{◌≡◌, ◌++◌, option_map, IfOk, OnOk};
 ghost use Rattle.text_tables.specs.Texts.{with_texts};
 ghost use Rattle.builtin_net.specs.Allowed.{interface};
-ghost use Rattle.builtin_net.specs.Names.{board_text, by_pci, label_of, on_board, own_pci};
+ghost use Rattle.builtin_net.specs.Names.{board_number, board_text, by_pci, label_of, on_board};
 
+use crate::allowed::{Attribute, number, read};
 use crate::buses::parent_after_virtio;
 use crate::function_names::give_by_function;
 use crate::given::{Given, give};
 use crate::needs::need_port;
-use crate::on_board::{board_number, label};
 use crate::ports::port_text;
 use crate::prefixes::Prefix;
 use crate::virtual_functions::{NamedFunction, named_function};
-use crate::words::push_number;
+use crate::words::{is_printable, push_number};
 use builtin_devices::{Devices, is_of};
 use device_core::{Device, Event};
 use std::alloc::{AllocError, Global};
 use text_tables::CowPairs;
+
+/// The number of a function on board, of 16 bits.
+#[tactic(auto, unfolding(crate::specs::Names::board_number))]
+fn board_number(pci: &Device<'_>) -> Option<u64>
+    ensures { result ≡ board_number pci.now }
+{
+    let number = number(pci, Attribute::AcpiIndex).or(number(pci, Attribute::Index))?;
+    if number >= 1 << 16 {
+        return None;
+    }
+    Some(number)
+}
 
 /// The name by the number on board.
 #[tactic(auto, unfolding(crate::specs::Names::board_text))]
@@ -43,17 +55,17 @@ fn board_text(
     Ok(Some(text))
 }
 
-/// The label of a function, unless it is a virtual one.
+/// The label of a function, if it may be part of a name, unless the function is a virtual one.
 fn label_of(alloc: Global, pci: &Device<'_>, suffix: &[u8]) -> Result<Option<Vec<u8>>, AllocError>
     ensures { IfOk result (λ text. option_map (λ t. t.items) text ≡ label_of pci.now suffix.now) }
 {
-    if !suffix.is_empty() {
+    let Some(text) = read(pci, Attribute::Label) else {
+        return Ok(None);
+    };
+    if !suffix.is_empty() || !is_printable(text) {
         return Ok(None);
     }
-    match label(pci) {
-        Some(text) => Ok(Some(Vec::from_slice(alloc, text)?)),
-        None => Ok(None),
-    }
+    Ok(Some(Vec::from_slice(alloc, text)?))
 }
 
 /// Gives the label of a function, and the name by its number on board.
@@ -81,19 +93,6 @@ fn give_on_board(
     need_port(alloc, &mut given.needs, prefix, event, env, false)
 }
 
-/// The device of PCI that an interface belongs to.
-fn own_pci<'d, 'a>(
-    alloc: Global,
-    devices: &'d Devices<'a>,
-) -> Result<Option<&'d Device<'a>>, AllocError>
-    ensures { IfOk result (λ pci. option_copied pci ≡ own_pci devices.now) }
-{
-    match parent_after_virtio(alloc, devices)? {
-        Some(device) if is_of(b"pci", None, device) => Ok(Some(device)),
-        _ => Ok(None),
-    }
-}
-
 /// Gives what is above an interface of PCI.
 #[tactic(auto, unfolding(crate::specs::Names::by_pci))]
 pub(crate) fn give_by_pci(
@@ -107,9 +106,12 @@ pub(crate) fn give_by_pci(
         ≡ given.old.properties.items ++ (by_pci devices.now prefix (interface devices.now env.now)).properties) }
     ensures needs { OnOk result (given.new.needs ≡ with_texts given.old.needs (by_pci devices.now prefix (interface devices.now env.now)).needs) }
 {
-    let Some(pci) = own_pci(alloc, devices)? else {
+    let Some(pci) = parent_after_virtio(alloc, devices)? else {
         return Ok(());
     };
+    if !is_of(b"pci", None, pci) {
+        return Ok(());
+    }
     let Some(own) = named_function(alloc, devices, pci)? else {
         return given.needs.add(alloc, b"physfn");
     };

@@ -5,7 +5,7 @@ ghost use Rattle.builtin_net.specs.Port.{named_port, port_number, port_text, rep
 
 use crate::allowed::{Attribute, own_number, read_own};
 use crate::prefixes::Prefix;
-use crate::words::{after_digits, is_printable, joined, leading_number, push_number};
+use crate::words::{is_printable, joined, leading_number, push_number};
 use builtin_devices::some_text;
 use device_core::Event;
 use std::alloc::{AllocError, Global};
@@ -17,9 +17,9 @@ use text_tables::CowPairs;
 fn represented(name: &[u8]) -> Option<u64>
     ensures { result ≡ represented name.now }
 {
-    let text = following(b"pf", name)?;
-    leading_number(text)?;
-    leading_number(following(b"vf", after_digits(text))?)
+    let (_, rest) = leading_number(following(b"pf", name)?)?;
+    let (number, _) = leading_number(following(b"vf", rest)?)?;
+    Some(number)
 }
 
 /// A port by its name, if that may be part of an interface's name.

@@ -1,17 +1,11 @@
 //! The slot that a function is in.
-ghost use Rattle.std.specs.Prelude.{◌≡◌, ◌==◌, ◌≤◌, false, find, length, not, option_copied, option_map, IfOk, OnOk};
+ghost use Rattle.std.specs.Prelude.{◌≡◌, ◌==◌, ◌≤◌, length, not, option_copied, option_map, IfOk, OnOk};
 ghost use Rattle.std.specs.Char.{is_ascii_uppercase};
-ghost use Rattle.std.specs.List.{after_last, list_any, suffix_len};
-ghost use Rattle.std.specs.Option.{option_map_or};
+ghost use Rattle.std.specs.List.{list_any, suffix_len};
 ghost use Rattle.text_tables.specs.Texts.{with_texts};
-ghost use Rattle.builtin_devices.specs.Devices.{parents_of};
-ghost use Rattle.builtin_net.specs.Allowed.{read};
-ghost use Rattle.builtin_net.specs.Needs.{bus_needs, firmware_needs, lacks_at_end, lacks_modalias, slot_needs};
-ghost use Rattle.builtin_net.specs.Slots.{ends_search, ends_search_in_pci, firmware_number, is_bridge, is_described, is_identity, is_slot_of};
-ghost use Rattle.builtin_net.specs.Slots.{number_by_firmware, number_by_place, number_holding, number_of_above, pci_above, search_end, slot_at_end};
-ghost use Rattle.builtin_net.specs.Slots.{slot_by_bus, slot_by_identity};
-ghost use Rattle.builtin_net.specs.Slots.{slot_files, slot_name, slot_number, slot_of};
-ghost use Rattle.builtin_net.specs.Words.{first_given};
+ghost use Rattle.builtin_net.specs.Needs.{bus_needs, firmware_needs, slot_needs};
+ghost use Rattle.builtin_net.specs.Slots.{ends_search, firmware_number, is_bridge, is_described, is_slot_of, number_by_firmware};
+ghost use Rattle.builtin_net.specs.Slots.{number_by_place, number_holding, search_end, slot_by_bus, slot_by_identity, slot_name, slot_of};
 
 use crate::allowed::{Attribute, lacks, number, read};
 use crate::functions::is_several;
@@ -50,54 +44,16 @@ fn bytes_after_s(text: &[u8]) -> usize
     text.iter().rev().take_while(|byte| **byte != b's').count()
 }
 
-/// What follows the last `s` of a text, or the whole text.
-fn after_last_s(text: &[u8]) -> &[u8]
-    ensures { result.now ≡ after_last (λ b. b == 115) text.now }
-{
-    text.split_at(text.len() - bytes_after_s(text)).1
-}
-
 /// Whether a device is a bridge.
-#[tactic(auto, unfolding(crate::specs::Slots::is_bridge, crate::specs::Slots::is_bridge_alias))]
+#[tactic(auto, unfolding(crate::specs::Slots::is_bridge))]
 pub(crate) fn is_bridge(pci: &Device<'_>) -> bool
     ensures { result ≡ is_bridge pci.now }
 {
-    match read(pci, Attribute::Modalias) {
-        Some(alias) => alias.starts_with(b"pci:") && after_last_s(alias).starts_with(b"c04"),
-        None => false,
-    }
-}
-
-/// The nearest device of PCI above another.
-pub(crate) fn pci_above<'d, 'a>(
-    alloc: Global,
-    devices: &'d Devices<'a>,
-    device: &Device<'_>,
-) -> Result<Option<&'d Device<'a>>, AllocError>
-    ensures { IfOk result (λ found. option_copied found ≡ pci_above devices.now device.now) }
-{
-    devices.above(alloc, b"pci", None, device.path())
-}
-
-/// What the firmware gives for the device above a function.
-fn number_of_above(several: bool, above: Option<&Device<'_>>) -> Option<u64>
-    ensures { result ≡ number_of_above several (option_copied above.entry) }
-{
-    let pci = above?;
-    if is_bridge(pci) && !several {
-        return None;
-    }
-    firmware_number(pci)
-}
-
-/// Whether there is a device, and it lacks its modalias.
-fn lacks_modalias(device: Option<&Device<'_>>) -> bool
-    ensures { result ≡ lacks_modalias (option_copied device.entry) }
-{
-    match device {
-        Some(device) => lacks(device, Attribute::Modalias),
-        None => false,
-    }
+    let Some(alias) = read(pci, Attribute::Modalias) else {
+        return false;
+    };
+    let (_, end) = alias.split_at(alias.len() - bytes_after_s(alias));
+    alias.starts_with(b"pci:") && end.starts_with(b"c04")
 }
 
 /// The number that the firmware gives for a function, or else for the device above. What is needed for it is added.
@@ -115,9 +71,14 @@ fn number_by_firmware(
         return Ok(Some(number));
     }
     let several = is_several(alloc, devices.event(), pci)?;
-    let above = pci_above(alloc, devices, pci)?;
-    need(alloc, needs, lacks_modalias(above), b"modalias")?;
-    Ok(number_of_above(several, above))
+    let Some(above) = devices.above(alloc, b"pci", None, pci.path())? else {
+        return Ok(None);
+    };
+    need(alloc, needs, lacks(above, Attribute::Modalias), b"modalias")?;
+    if is_bridge(above) && !several {
+        return Ok(None);
+    }
+    Ok(firmware_number(above))
 }
 
 /// Whether a block describes a folder, perhaps as empty.
@@ -145,14 +106,7 @@ fn slot_name(path: &[u8]) -> Option<&[u8]>
     Some(name)
 }
 
-/// The number of a slot by its name.
-fn slot_number(path: &[u8]) -> Option<u64>
-    ensures { result ≡ slot_number path.now }
-{
-    positive(number_in(Base::AsWritten, MAX_NUMBER, slot_name(path)?))
-}
-
-/// The number of a slot, by the path and the text of its file, if it holds the device with a name.
+/// The number of a slot by the path of its file, if the text of the file says that it holds the device with a name.
 #[tactic(auto, unfolding(crate::specs::Slots::number_holding))]
 fn number_holding(kernel: &[u8], path: &[u8], address: &[u8]) -> Option<u64>
     ensures { result ≡ number_holding kernel.now (path.now, address.now) }
@@ -160,23 +114,7 @@ fn number_holding(kernel: &[u8], path: &[u8], address: &[u8]) -> Option<u64>
     if !kernel.starts_with(address) {
         return None;
     }
-    slot_number(path)
-}
-
-/// The number of the slot that holds the device with a name.
-fn number_by_name(
-    alloc: Global,
-    event: &Event<'_>,
-    kernel: &[u8],
-) -> Result<Option<u64>, AllocError>
-    ensures { IfOk result (λ number. number ≡ first_given (number_holding kernel.now) (slot_files event.now)) }
-{
-    for file in files_below(alloc, event, SLOTS_FOLDER)? {
-        if let Some(number) = number_holding(kernel, file.0, file.1) {
-            return Ok(Some(number));
-        }
-    }
-    Ok(None)
+    positive(number_in(Base::AsWritten, MAX_NUMBER, slot_name(path)?))
 }
 
 /// The number of the slot that holds a device.
@@ -189,7 +127,12 @@ fn number_by_place(
     ensures { IfOk result (λ number. number ≡ number_by_place event.now pci.now) }
 {
     let kernel = kernel_name(alloc, pci.path())?;
-    number_by_name(alloc, event, kernel.as_slice())
+    for file in files_below(alloc, event, SLOTS_FOLDER)? {
+        if let Some(number) = number_holding(kernel.as_slice(), file.0, file.1) {
+            return Ok(Some(number));
+        }
+    }
+    Ok(None)
 }
 
 /// Whether a text has a capital letter.
@@ -199,37 +142,18 @@ fn has_large(text: &[u8]) -> bool
     text.iter().any(|byte| byte.is_ascii_uppercase())
 }
 
-/// Whether a name is a number in eight hexadecimal digits with lower case letters.
-#[tactic(auto, unfolding(crate::specs::Slots::is_identity))]
-fn is_identity(number: u64, name: &[u8]) -> bool
-    ensures { result ≡ is_identity number name.now }
+/// Whether a file is that of the slot whose name is a number in eight hexadecimal digits with lower case letters.
+#[tactic(auto, unfolding(crate::specs::Slots::is_slot_of))]
+fn is_slot_of(number: u64, path: &[u8], address: &[u8]) -> bool
+    ensures { result ≡ is_slot_of number (path.now, address.now) }
 {
+    let Some(name) = slot_name(path) else {
+        return false;
+    };
     name.len() == 8
         && is_hexadecimal(name)
         && !has_large(name)
         && is_number(number, number_in(Base::Hexadecimal, MAX_NUMBER, name))
-}
-
-/// Whether a file is that of the slot of a number of System z.
-fn is_slot_of(number: u64, path: &[u8]) -> bool
-    ensures { result ≡ option_map_or (is_identity number) (slot_name path.now) false }
-{
-    match slot_name(path) {
-        Some(name) => is_identity(number, name),
-        None => false,
-    }
-}
-
-/// Whether there is a slot of a number of System z.
-fn has_slot_of(alloc: Global, event: &Event<'_>, number: u64) -> Result<bool, AllocError>
-    ensures { IfOk result (λ has. has ≡ list_any (is_slot_of number) (slot_files event.now)) }
-{
-    for file in files_below(alloc, event, SLOTS_FOLDER)? {
-        if is_slot_of(number, file.0) {
-            return Ok(true);
-        }
-    }
-    Ok(false)
 }
 
 /// The slot of a function of System z, whose number has a slot of its own.
@@ -244,13 +168,15 @@ fn slot_by_identity(
     let Some(number) = positive(number_in(Base::AsWritten, MAX_NUMBER, identity)) else {
         return Ok(None);
     };
-    if !has_slot_of(alloc, event, number)? {
-        return Ok(None);
+    for file in files_below(alloc, event, SLOTS_FOLDER)? {
+        if is_slot_of(number, file.0, file.1) {
+            return Ok(Some(Slot {
+                number,
+                drops_domain: true,
+            }));
+        }
     }
-    Ok(Some(Slot {
-        number,
-        drops_domain: true,
-    }))
+    Ok(None)
 }
 
 /// Whether the search for a slot of the bus ends at a device.
@@ -264,23 +190,7 @@ fn ends_search(alloc: Global, event: &Event<'_>, pci: &Device<'_>) -> Result<boo
     Ok(number_by_place(alloc, event, pci)?.is_some())
 }
 
-/// The device above another at which the search ends.
-fn search_above<'d, 'a>(
-    alloc: Global,
-    devices: &'d Devices<'a>,
-    path: &[u8],
-) -> Result<Option<&'d Device<'a>>, AllocError>
-    ensures { IfOk result (λ found. option_copied found ≡ find (ends_search_in_pci devices.now) (parents_of devices.now path.now)) }
-{
-    for device in devices.parents_of(alloc, path)? {
-        if is_of(b"pci", None, device) && ends_search(alloc, devices.event(), device)? {
-            return Ok(Some(device));
-        }
-    }
-    Ok(None)
-}
-
-/// The device at which the search that begins at a function ends.
+/// The device at which the search that begins at a function and goes on above it ends.
 #[tactic(auto, unfolding(crate::specs::Slots::search_end))]
 fn search_end<'d, 'a>(
     alloc: Global,
@@ -292,42 +202,12 @@ fn search_end<'d, 'a>(
     if ends_search(alloc, devices.event(), pci)? {
         return Ok(Some(pci));
     }
-    search_above(alloc, devices, pci.path())
-}
-
-/// The slot of the device at which the search ends.
-fn slot_at_end(
-    alloc: Global,
-    event: &Event<'_>,
-    pci: &Device<'_>,
-) -> Result<Option<Slot>, AllocError>
-    ensures { IfOk result (λ slot. slot ≡ slot_at_end event.now pci.now (read pci.now Attribute.FunctionId)) }
-{
-    if let Some(identity) = read(pci, Attribute::FunctionId) {
-        return slot_by_identity(alloc, event, identity);
-    }
-    if is_bridge(pci) {
-        return Ok(None);
-    }
-    match number_by_place(alloc, event, pci)? {
-        Some(number) => Ok(Some(Slot {
-            number,
-            drops_domain: false,
-        })),
-        None => Ok(None),
-    }
-}
-
-/// Whether there is a device, it lacks its modalias, and is not a function of System z.
-fn lacks_at_end(device: Option<&Device<'_>>) -> bool
-    ensures { result ≡ lacks_at_end (option_copied device.entry) }
-{
-    match device {
-        Some(device) => {
-            lacks(device, Attribute::Modalias) && read(device, Attribute::FunctionId).is_none()
+    for device in devices.parents_of(alloc, pci.path())? {
+        if is_of(b"pci", None, device) && ends_search(alloc, devices.event(), device)? {
+            return Ok(Some(device));
         }
-        None => false,
     }
+    Ok(None)
 }
 
 /// The slot of a function by the slots of the bus. What is needed for it is added.
@@ -343,10 +223,28 @@ fn slot_by_bus<'a>(
 {
     let end = search_end(alloc, devices, pci)?;
     let is_described = is_described(alloc, devices.event(), SLOTS_FOLDER)?;
-    need(alloc, needs, lacks_at_end(end), b"modalias")?;
+    let lacks_modalias = match end {
+        Some(found) => {
+            lacks(found, Attribute::Modalias) && read(found, Attribute::FunctionId).is_none()
+        }
+        None => false,
+    };
+    need(alloc, needs, lacks_modalias, b"modalias")?;
     need(alloc, needs, !is_described, b"slots")?;
-    match end {
-        Some(found) => slot_at_end(alloc, devices.event(), found),
+    let Some(found) = end else {
+        return Ok(None);
+    };
+    if let Some(identity) = read(found, Attribute::FunctionId) {
+        return slot_by_identity(alloc, devices.event(), identity);
+    }
+    if is_bridge(found) {
+        return Ok(None);
+    }
+    match number_by_place(alloc, devices.event(), found)? {
+        Some(number) => Ok(Some(Slot {
+            number,
+            drops_domain: false,
+        })),
         None => Ok(None),
     }
 }

@@ -1,8 +1,8 @@
 //! What names say about interfaces of USB.
 ghost use Rattle.std.specs.Prelude.{◌≡◌, ◌++◌, IfOk, OnOk, option_map};
-ghost use Rattle.builtin_net.specs.Usb.{bcma_suffix, core_in, ports_text, unless_usual, usb_suffix, usb_text};
+ghost use Rattle.builtin_net.specs.Usb.{bcma_suffix, core_in, ports_text, unless_usual, usb_suffix};
 
-use crate::words::{MAX_NUMBER, push_number};
+use crate::words::{MAX_NUMBER, joined, push_number};
 use builtin_devices::{Base, number_in};
 use std::alloc::{AllocError, Global};
 use text_bytes::{following, split_once};
@@ -33,22 +33,6 @@ fn push_unless_usual(
     text.extend_from_slice(number)
 }
 
-/// Ports, configuration and interface as the end of a name.
-fn usb_text(
-    alloc: Global,
-    ports: &[u8],
-    configuration: &[u8],
-    interface: &[u8],
-) -> Result<Vec<u8>, AllocError>
-    ensures { IfOk result (λ text. text.items ≡ usb_text ports.now configuration.now interface.now) }
-{
-    let mut text = Vec::from_slice(alloc, b"u")?;
-    text.extend_from_slice(&ports_text(alloc, ports)?)?;
-    push_unless_usual(&mut text, b"1", b"c", configuration)?;
-    push_unless_usual(&mut text, b"0", b"i", interface)?;
-    Ok(text)
-}
-
 /// The end of names by an interface of USB, by its name.
 #[tactic(auto, unfolding(crate::specs::Usb::usb_suffix))]
 pub(crate) fn usb_suffix(alloc: Global, name: &[u8]) -> Result<Option<Vec<u8>>, AllocError>
@@ -63,7 +47,10 @@ pub(crate) fn usb_suffix(alloc: Global, name: &[u8]) -> Result<Option<Vec<u8>>, 
     let Some((configuration, interface)) = split_once(b'.', numbers) else {
         return Ok(None);
     };
-    Ok(Some(usb_text(alloc, ports, configuration, interface)?))
+    let mut text = joined(alloc, b"u", &ports_text(alloc, ports)?)?;
+    push_unless_usual(&mut text, b"1", b"c", configuration)?;
+    push_unless_usual(&mut text, b"0", b"i", interface)?;
+    Ok(Some(text))
 }
 
 /// The core that a name of bcma gives.

@@ -1,9 +1,9 @@
 //! Virtual functions, whose names are those of the physical one.
 ghost use Rattle.std.specs.Prelude.{◌≡◌, IfOk, option_map};
-ghost use Rattle.builtin_net.specs.Virtual.{named_function, number_leading, physical_path, virtual_number};
+ghost use Rattle.builtin_net.specs.Virtual.{named_function, number_leading, virtual_number};
 
-use crate::words::joined;
-use builtin_devices::{Devices, file_at, files_below};
+use crate::words::{file_of, joined};
+use builtin_devices::{Devices, files_below};
 use device_core::{Device, Event};
 use std::alloc::{AllocError, Global};
 use std::marker::Model;
@@ -24,18 +24,6 @@ impl<'d, 'a> Model for NamedFunction<'d, 'a> {
     ghost Value = { Named };
 
     ghost view = { λ f. (f.pci.now, f.suffix.items) };
-}
-
-/// Where the link to the physical function leads.
-fn physical_path<'a>(
-    alloc: Global,
-    event: &Event<'a>,
-    pci: &Device<'_>,
-) -> Result<Option<&'a [u8]>, AllocError>
-    ensures { IfOk result (λ path. option_map (λ t. t.now) path ≡ physical_path event.now pci.now) }
-{
-    let link = joined(alloc, pci.path(), b"/physfn")?;
-    Ok(file_at(event, &link))
 }
 
 /// The number of a virtual function, if a link of its physical one leads to it.
@@ -81,7 +69,7 @@ pub(crate) fn named_function<'d, 'a>(
         pci,
         suffix: Vec::new(alloc),
     };
-    let Some(path) = physical_path(alloc, devices.event(), pci)? else {
+    let Some(path) = file_of(alloc, devices.event(), pci, b"/physfn")? else {
         return Ok(Some(own));
     };
     let Some(physical) = devices.device_by(path) else {

@@ -1,10 +1,11 @@
 //! Parts of texts that several names need.
-ghost use Rattle.std.specs.Prelude.{◌≡◌, ◌++◌, ◌<◌, ◌≤◌, ◌^◌, decimal, length, map, option_map, IfOk, IfSome, OnOk};
-ghost use Rattle.std.specs.Char.{to_ascii_uppercase};
+ghost use Rattle.std.specs.Prelude.{◌≡◌, ◌++◌, ◌≤◌, decimal, length, option_map, IfOk, OnOk};
 ghost use Rattle.std.specs.List.{prefix_len};
 ghost use Rattle.text_bytes.specs.Numbers.{is_digit};
-ghost use Rattle.builtin_net.specs.Words.{after_digits, is_printable, leading_number, positive};
+ghost use Rattle.builtin_net.specs.Words.{file_of, is_printable, leading_number, positive};
 
+use builtin_devices::file_at;
+use device_core::{Device, Event};
 use itoa::Buffer;
 use std::alloc::{AllocError, Global};
 use text_bytes::{decimal_below, has_control, is_digit, is_utf8};
@@ -20,31 +21,26 @@ fn digit_count(text: &[u8]) -> usize
     text.iter().take_while(|byte| is_digit(**byte)).count()
 }
 
-/// What follows the digits that a text begins with.
-pub(crate) fn after_digits(text: &[u8]) -> &[u8]
-    ensures { result.now ≡ after_digits text.now }
-{
-    let (_, following) = text.split_at(digit_count(text));
-    following
-}
-
-/// The number of 32 bits that the digits at the start of a text write.
+/// The number of 32 bits that the digits at the start of a text write, and what follows them.
 #[tactic(auto, unfolding(crate::specs::Words::leading_number))]
-pub(crate) fn leading_number(text: &[u8]) -> Option<u64>
-    ensures value { result ≡ leading_number text.now }
-    ensures below { IfSome result (λ number. number < 2 ^ 32) }
+pub(crate) fn leading_number(text: &[u8]) -> Option<(u64, &[u8])>
+    ensures { option_map (λ n. (n.0, n.1.now)) result ≡ leading_number text.now }
 {
-    let (digits, _) = text.split_at(digit_count(text));
-    decimal_below(1 << 32, digits)
+    let (digits, following) = text.split_at(digit_count(text));
+    Some((decimal_below(1 << 32, digits)?, following))
 }
 
-/// A text in capital letters.
-pub(crate) fn large(alloc: Global, text: &[u8]) -> Result<Vec<u8>, AllocError>
-    ensures { IfOk result (λ letters. letters.items ≡ map to_ascii_uppercase text.now) }
+/// What the file with a name in the folder of a device says; for a link, the path to which it leads.
+pub(crate) fn file_of<'a>(
+    alloc: Global,
+    event: &Event<'a>,
+    device: &Device<'_>,
+    name: &[u8],
+) -> Result<Option<&'a [u8]>, AllocError>
+    ensures { IfOk result (λ text. option_map (λ t. t.now) text ≡ file_of event.now device.now name.now) }
 {
-    text.iter()
-        .map(|byte| byte.to_ascii_uppercase())
-        .collect(alloc)
+    let path = joined(alloc, device.path(), name)?;
+    Ok(file_at(event, &path))
 }
 
 /// Whether a text may be part of a name: UTF-8 without control characters.

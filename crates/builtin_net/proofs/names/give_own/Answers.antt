@@ -1,8 +1,9 @@
 use Rattle.std.proofs.Common.{List, [], ◌∷◌, ◌++◌, ◌∙◌, ap, append_assoc, codes}
 use Rattle.text_tables.specs.Pairs.{Pair}
 use Rattle.builtin_net.specs.Allowed.{interface}
-use Rattle.builtin_net.specs.Names.{by_address, by_buses, by_tree, prefixed}
+use Rattle.builtin_net.specs.Names.{by_address, by_buses, prefixed}
 use Rattle.builtin_net.specs.Prefixes.{prefix_text}
+use Rattle.builtin_net.specs.Trees.{by_tree}
 use Rattle.builtin_net.proofs.names.give_own.Goals as goal
 
 pub returns : goal.returns

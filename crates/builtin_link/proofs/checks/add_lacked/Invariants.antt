@@ -2,7 +2,7 @@ use Rattle.std.proofs.Common.{◌≡◌, drop}
 use Rattle.std.specs.Prelude.{filter_map}
 use Rattle.text_tables.specs.Texts.{with_texts}
 use Rattle.builtin_link.specs.Checks.{lacked_word}
-use Rattle.builtin_link.proofs.checks.add_words.Given as goal
+use Rattle.builtin_link.proofs.checks.add_lacked.Given as goal
 
 abbrev pub invariant-loop-check : goal.invariant-loop-check
 invariant-loop-check l =

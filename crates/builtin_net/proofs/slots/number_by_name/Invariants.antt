@@ -1,9 +1,0 @@
-use Rattle.std.proofs.Common.{◌≡◌, map}
-use Rattle.builtin_net.specs.Slots.{number_holding, slot_files}
-use Rattle.builtin_net.specs.Words.{first_given}
-use Rattle.builtin_net.proofs.slots.number_by_name.Given as goal
-
-abbrev pub invariant-loop-file : goal.invariant-loop-file
-invariant-loop-file l =
-    first_given (number_holding l.kernel) (map (λ file. (file.0.now, file.1.now)) l.file-iterator.rest.items)
-    ≡ first_given (number_holding l.fn.kernel) (slot_files l.fn.event)

@@ -12,7 +12,7 @@ use Rattle.text_bytes.specs.Text.{Text}
 use Rattle.text_tables.specs.Texts.{same_text}
 use Rattle.eval_commands.specs.Builtins.{builtin, builtin_of, builtin_of_words, hwdb_asked}
 use Rattle.eval_commands.specs.Hwdb.{filter_option, hwdb_of, is_option, is_unknown, last_value, operands, prefix_option, subsystem_option, value_beside, value_in}
-use Rattle.eval_commands.specs.Unquoted.{asked_by, asked_of, first_and_others, no_request, other_name, other_of, request_from, spaced_words, with_cut, with_modalias, with_option, with_value, with_word}
+use Rattle.eval_commands.specs.Unquoted.{asked_by, asked_of, first_and_others, no_request, other_name, other_of, request_from, spaced_words, with_modalias, with_option, with_value, with_word}
 use Rattle.eval_commands.specs.Words.{is_quote}
 use Rattle.eval_commands.specs.declared.builtin.Builtin.TheVariants as asked
 use Rattle.eval_commands.specs.declared.hwdb.Hwdb.{Hwdb}
@@ -135,7 +135,7 @@ value_takes false true word r after cut t p o s e =
     subst (λ m. Takes word r m) (sym (some_is _ _ is)) (takes_prefix word r cut o s t p)
 value_takes false false word r after cut t p o s e = let is : Some after ≡ None = rw (t, p) at e in cc
 
-option_takes : (found : Option (Text × Text)) (word : Text) (r after : Hwdb) → is_option word ≡ true → split_once equals word ≡ found → Some after ≡ with_cut found r → Takes word r after
+option_takes : (found : Option (Text × Text)) (word : Text) (r after : Hwdb) → is_option word ≡ true → split_once equals word ≡ found → Some after ≡ option_and_then (λ cut. with_value cut.0 cut.1 r) found → Takes word r after
 option_takes None word r after o s e = cc
 option_takes (Some cut) word r after o s e = value_takes (same_text cut.0 subsystem_option) (same_text cut.0 prefix_option) word r after cut refl refl o s e
 

@@ -19,10 +19,6 @@ abbrev pub hwdb_asked : Option Hwdb → Builtin
 hwdb_asked None = asked.BadArguments
 hwdb_asked (Some hwdb) = asked.Hwdb hwdb
 
--- what words of `net_setup_link` ask for: it takes no argument
-abbrev pub link_asked : List Text → Builtin
-link_asked words = if nat_lt 1 (length words) then asked.Fails else asked.NetSetupLink
-
 -- what words ask for: the first is the builtin's name, empty if there is none
 abbrev pub builtin_of_words : List Text → Builtin
 builtin_of_words [] = asked.Other []
@@ -34,13 +30,13 @@ builtin_of None = asked.BadArguments
 builtin_of (Some words) = builtin_of_words words
 
 -- what a command asks for, by the builtin of udev that it means; the first word of `hwdb` is its name. What is not
--- computed is answered by a block; a command that means no builtin is kept as it is.
+-- computed is answered by a block; a command that means no builtin is kept as it is. `net_setup_link` takes no argument.
 abbrev pub builtin_meant : Option known.Builtin → Text → Builtin
 builtin_meant None text = asked.Answered text
 builtin_meant (Some known_as.Hwdb) text = hwdb_asked (udev_hwdb_of (drop 1 (udev_words text)))
 builtin_meant (Some known_as.InputId) text = asked.InputId
 builtin_meant (Some known_as.NetId) text = asked.NetId
-builtin_meant (Some known_as.NetSetupLink) text = link_asked (udev_words text)
+builtin_meant (Some known_as.NetSetupLink) text = if nat_lt 1 (length (udev_words text)) then asked.Fails else asked.NetSetupLink
 builtin_meant (Some known_as.PathId) text = asked.PathId
 builtin_meant (Some known_as.UsbId) text = asked.UsbId
 builtin_meant (Some known_as.Keyboard) text = asked.SetsNothing

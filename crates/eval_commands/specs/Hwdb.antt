@@ -40,13 +40,10 @@ filter_option = codes "--filter"
 abbrev pub is_option : Text → Bool
 is_option word = begins_with minus word
 
--- whether a word is one of the three options
-abbrev pub is_known : Text → Bool
-is_known word = is_some (value_in subsystem_option word) || is_some (value_in prefix_option word) || is_some (value_in filter_option word)
-
--- whether a word is an unknown option
+-- whether a word is an unknown option: none of the three
 abbrev pub is_unknown : Text → Bool
-is_unknown word = is_option word && not (is_known word)
+is_unknown word =
+    is_option word && not (is_some (value_in subsystem_option word) || is_some (value_in prefix_option word) || is_some (value_in filter_option word))
 
 -- the words that are not options
 abbrev pub operands : List Text → List Text

@@ -1,5 +1,5 @@
 -- The words after `hwdb` as udev takes them, one after another: options as getopt_long(3) reads them, and a modalias.
-use Rattle.std.specs.Prelude.{ℕ, Bool, true, not, ◌==◌, ◌&&◌, ◌||◌, nat_eq, List, [], ◌∷◌, drop, find, fold, Option, Some, None, is_none, is_some}
+use Rattle.std.specs.Prelude.{ℕ, true, not, ◌==◌, ◌&&◌, ◌||◌, nat_eq, List, [], ◌∷◌, drop, find, fold, Option, Some, None, is_none, is_some, option_map}
 use Rattle.std.specs.Prelude.{codes, false, if◌then◌else◌}
 use Rattle.std.specs.List.{starts_with}
 use Rattle.std.specs.Option.{option_and_then, option_or, unwrap_or}
@@ -59,14 +59,11 @@ named_given None value g = g
 named_given (Some known) None g = record g { wanted = Some known }
 named_given (Some known) (Some value) g = with_option known value g
 
--- an option's name, perhaps with `=` and a value, cut at the first `=`
-abbrev pub cut_given : Text → Option (Text × Text) → Given → Given
-cut_given text None g = named_given (option_named text) None g
-cut_given text (Some cut) g = named_given (option_named cut.0) (Some cut.1) g
-
--- what follows `--` in a word: nothing, and no option comes after it; or an option's name
+-- what follows `--` in a word: nothing, and no option comes after it; or an option's name, perhaps with `=` and a value, cut at the first `=`
 abbrev pub long_given : Text → Given → Given
-long_given text g = if is_empty text then record g { is_ended = true } else cut_given text (split_once equals text) g
+long_given text g =
+    if is_empty text then record g { is_ended = true }
+    else (let cut = split_once equals text in named_given (option_named (unwrap_or (option_map (λ c. c.0) cut) text)) (option_map (λ c. c.1) cut) g)
 
 -- an option, if there is one by its letter: the rest of the word is its value, or the next word if nothing is left; a letter that is not an option is skipped
 abbrev pub letter_given : Option HwdbOption → (rest : Text) → (skipped : Given) → Given → Given
@@ -96,15 +93,11 @@ word_given (Some known) word g = with_option known word g
 abbrev pub took : Given → Text → Given
 took g word = word_given g.wanted word g
 
--- whether words ask to look at another device than the event's, which is not looked at: one is named, and there is no modalias, with which no
--- device is looked at
-abbrev pub is_of_other : Given → Bool
-is_of_other g = is_some g.device && is_none g.modalias
-
--- what the words ask for; nothing if that is another device than the event's, or if the filter is not a pattern
+-- what the words ask for; nothing if that is another device than the event's, which is not looked at (one is named, and there is no modalias, with
+-- which no device is looked at), or if the filter is not a pattern
 abbrev pub asked_by : Given → Option Hwdb
 asked_by g =
-    if is_of_other g || is_bad_filter g.filter then None
+    if (is_some g.device && is_none g.modalias) || is_bad_filter g.filter then None
     else Some (record { subsystem = g.subsystem; prefix = unwrap_or g.prefix []; filter = option_and_then pattern_of g.filter; modalias = g.modalias })
 
 -- what the words after `hwdb` ask for

@@ -55,14 +55,9 @@ with_value name value r =
     if same_text name subsystem_option then Some (record { subsystem = Some value; prefix = r.prefix; filter = r.filter; modalias = r.modalias })
     else (if same_text name prefix_option then Some (record { subsystem = r.subsystem; prefix = value; filter = r.filter; modalias = r.modalias }) else None)
 
--- the same with what stands around the `=` of an option
-abbrev pub with_cut : Option (Text × Text) → Hwdb → Option Hwdb
-with_cut None r = None
-with_cut (Some cut) r = with_value cut.0 cut.1 r
-
--- the same with a word that is meant as an option
+-- the same with a word that is meant as an option, by what stands around its `=`
 abbrev pub with_option : Text → Hwdb → Option Hwdb
-with_option word r = with_cut (split_once equals word) r
+with_option word r = option_and_then (λ cut. with_value cut.0 cut.1 r) (split_once equals word)
 
 -- the same with a modalias, if there is none
 abbrev pub with_modalias : Text → Hwdb → Option Hwdb

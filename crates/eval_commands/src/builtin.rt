@@ -1,10 +1,8 @@
 //! What a builtin's command asks for.
-ghost use Rattle.std.specs.Prelude.{◌≡◌, IfOk, drop};
+ghost use Rattle.std.specs.Prelude.{◌≡◌, IfOk};
 ghost use Rattle.rule_types.specs.Builtins as udev;
-ghost use Rattle.eval_commands.specs.Builtins.{builtin, builtin_meant, builtin_of, builtin_of_words, builtin_question, hwdb_asked, link_asked};
-ghost use Rattle.eval_commands.specs.Hwdb.{hwdb_of};
-ghost use Rattle.eval_commands.specs.UdevHwdb.{udev_hwdb_of};
-ghost use Rattle.eval_commands.specs.Words.{command_words, udev_words};
+ghost use Rattle.eval_commands.specs.Builtins.{builtin, builtin_meant, builtin_of, builtin_question, hwdb_asked};
+ghost use Rattle.eval_commands.specs.Words.{command_words};
 
 use crate::hwdb::{Hwdb, hwdb_of};
 use crate::udev_hwdb::udev_hwdb_of;
@@ -51,10 +49,13 @@ fn hwdb_asked(hwdb: Option<Hwdb>) -> Builtin
     }
 }
 
-/// What words ask for.
-fn builtin_of_words(alloc: Global, words: &[Bytes]) -> Result<Builtin, AllocError>
-    ensures { IfOk result (λ b. b ≡ builtin_of_words words.now) }
+/// What a command asks for by the manual.
+fn read_as_manual(alloc: Global, command: &[u8]) -> Result<Builtin, AllocError>
+    ensures { IfOk result (λ b. b ≡ builtin_of (command_words command.now)) }
 {
+    let Some(words) = command_words(alloc, command)? else {
+        return Ok(Builtin::BadArguments);
+    };
     let Some((name, arguments)) = words.split_first() else {
         return Ok(Builtin::Other(Bytes::new(Vec::new(alloc))));
     };
@@ -64,48 +65,26 @@ fn builtin_of_words(alloc: Global, words: &[Bytes]) -> Result<Builtin, AllocErro
     Ok(hwdb_asked(hwdb_of(alloc, arguments)?))
 }
 
-/// What a command asks for by the manual.
-fn read_as_manual(alloc: Global, command: &[u8]) -> Result<Builtin, AllocError>
-    ensures { IfOk result (λ b. b ≡ builtin_of (command_words command.now)) }
-{
-    match command_words(alloc, command)? {
-        Some(words) => builtin_of_words(alloc, &words),
-        None => Ok(Builtin::BadArguments),
-    }
-}
-
-/// What a command of `hwdb` asks for as udev has it, whose first word is the name.
-fn read_hwdb(alloc: Global, command: &[u8]) -> Result<Builtin, AllocError>
-    ensures { IfOk result (λ b. b ≡ hwdb_asked (udev_hwdb_of (drop 1 (udev_words command.now)))) }
-{
-    let words = udev_words(alloc, command)?;
-    match words.split_first() {
-        Some((_, arguments)) => Ok(hwdb_asked(udev_hwdb_of(alloc, arguments)?)),
-        None => Ok(hwdb_asked(udev_hwdb_of(alloc, &[])?)),
-    }
-}
-
-/// What a command of `net_setup_link` asks for as udev has it, whose first word is the name.
-fn read_net_setup_link(alloc: Global, command: &[u8]) -> Result<Builtin, AllocError>
-    ensures { IfOk result (λ b. b ≡ link_asked (udev_words command.now)) }
-{
-    let words = udev_words(alloc, command)?;
-    Ok(if words.len() > 1 {
-        Builtin::Fails
-    } else {
-        Builtin::NetSetupLink
-    })
-}
-
 /// What a command asks for as udev has it.
 fn read_as_udev(alloc: Global, command: &[u8]) -> Result<Builtin, AllocError>
     ensures { IfOk result (λ b. b ≡ builtin_meant (udev.builtin_of command.now) command.now) }
 {
     match builtin_of(command) {
-        Some(rule_types::Builtin::Hwdb) => read_hwdb(alloc, command),
+        Some(rule_types::Builtin::Hwdb) => {
+            let words = udev_words(alloc, command)?;
+            let arguments = words.get(1..).unwrap_or(&[]);
+            Ok(hwdb_asked(udev_hwdb_of(alloc, arguments)?))
+        }
         Some(rule_types::Builtin::InputId) => Ok(Builtin::InputId),
         Some(rule_types::Builtin::NetId) => Ok(Builtin::NetId),
-        Some(rule_types::Builtin::NetSetupLink) => read_net_setup_link(alloc, command),
+        Some(rule_types::Builtin::NetSetupLink) => {
+            let words = udev_words(alloc, command)?;
+            Ok(if words.len() > 1 {
+                Builtin::Fails
+            } else {
+                Builtin::NetSetupLink
+            })
+        }
         Some(rule_types::Builtin::PathId) => Ok(Builtin::PathId),
         Some(rule_types::Builtin::UsbId) => Ok(Builtin::UsbId),
         Some(

@@ -1,11 +1,8 @@
 //! The devices whose modaliases `hwdb` looks up as udev does.
 ghost use Rattle.std.specs.Prelude.{◌≡◌, ◌≤◌, None, length, map, option_map, IfOk};
-ghost use Rattle.std.specs.Option.{option_or};
 ghost use Rattle.text_bytes.specs.declared.profile.Profile.TheVariants.{Udev};
-ghost use Rattle.eval_state.specs.Texts.{filled};
 ghost use Rattle.eval_commands.specs.Inner.{candidates_as, wanted_in};
-ghost use Rattle.eval_commands.specs.LookUps.{candidate_with, count_before_usb, is_last, is_usb_device, is_wanted, modaliases_in, udev_modaliases_of};
-ghost use Rattle.eval_commands.specs.UsbModalias.{made_up};
+ghost use Rattle.eval_commands.specs.LookUps.{candidate_with, count_before_usb, is_last, is_wanted, modaliases_in, udev_modaliases_of};
 
 use crate::usb_modalias::made_up;
 use builtin_devices::{is_text, type_of};
@@ -32,21 +29,8 @@ impl<'a> Model for Candidate<'a> {
     ghost view = { λ c. record { subsystem = option_map (λ t. t.now) c.subsystem; devtype = option_map (λ t. t.now) c.devtype; modalias = c.modalias } };
 }
 
-/// The modalias of a device, or the one that udev makes up for it if it has none; an empty one is none.
-fn own_or_made_up(
-    alloc: Global,
-    device: &Device<'_>,
-    modalias: Option<&[u8]>,
-) -> Result<Option<Bytes>, AllocError>
-    ensures { IfOk result (λ text. text ≡ option_or (filled (option_map (λ t. t.now) modalias.entry)) (made_up device.now)) }
-{
-    match modalias {
-        Some(modalias) if !modalias.is_empty() => Ok(Some(Bytes::copy_of(alloc, modalias)?)),
-        _ => made_up(alloc, device),
-    }
-}
-
-/// A device as udev sees it, by its property MODALIAS.
+/// A device as udev sees it, by its property MODALIAS, or the modalias that udev makes up for it if it has none; an empty
+/// one is none.
 pub(crate) fn seen_by_udev<'a>(
     alloc: Global,
     device: &'a Device<'_>,
@@ -54,10 +38,14 @@ pub(crate) fn seen_by_udev<'a>(
 ) -> Result<Candidate<'a>, AllocError>
     ensures { IfOk result (λ c. c ≡ candidate_with Udev device.now None (option_map (λ t. t.now) modalias.entry)) }
 {
+    let modalias = match modalias {
+        Some(modalias) if !modalias.is_empty() => Some(Bytes::copy_of(alloc, modalias)?),
+        _ => made_up(alloc, device)?,
+    };
     Ok(Candidate {
         subsystem: device.subsystem(),
         devtype: type_of(device),
-        modalias: own_or_made_up(alloc, device, modalias)?,
+        modalias,
     })
 }
 
@@ -96,18 +84,13 @@ impl<'a> Candidate<'a> {
         is_wanted(subsystem, self.subsystem)
     }
 
-    /// Whether it is a USB device, and not an interface of one.
-    fn is_usb_device(&self) -> bool
-        ensures { result ≡ is_usb_device self.now }
-    {
-        is_text(b"usb", self.subsystem) && is_text(b"usb_device", self.devtype)
-    }
-
     /// Whether it is a device of USB that is wanted.
     pub(crate) fn is_last(&self, subsystem: Option<&[u8]>) -> bool
         ensures { result ≡ is_last (option_map (λ t. t.now) subsystem.entry) self.now }
     {
-        self.is_wanted(subsystem) && self.is_usb_device()
+        self.is_wanted(subsystem)
+            && is_text(b"usb", self.subsystem)
+            && is_text(b"usb_device", self.devtype)
     }
 }
 

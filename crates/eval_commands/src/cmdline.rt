@@ -1,8 +1,7 @@
 //! The words of the kernel's command line.
 ghost use Rattle.std.specs.Prelude.{◌≡◌, IfOk, map, option_map};
 ghost use Rattle.std.specs.List.{list_any};
-ghost use Rattle.text_bytes.specs.Texts.{following};
-ghost use Rattle.eval_commands.specs.Cmdline.{after_name, cmdline_value, ends_name, folded, has_word, is_alone, is_asked, last_value, value_after};
+ghost use Rattle.eval_commands.specs.Cmdline.{after_name, cmdline_value, folded, has_word, is_alone, is_asked, last_value, value_after};
 
 use crate::words::udev_words;
 use std::alloc::{AllocError, Global};
@@ -83,32 +82,17 @@ pub fn cmdline_value(alloc: Global, name: &[u8], line: &[u8]) -> Result<Option<B
     }
 }
 
-/// Whether a name that a word begins with ends there, or goes on.
-fn ends_name(name: &[u8], word: &[u8]) -> bool
-    ensures { result ≡ ends_name (following name.now word.now) }
-{
-    match following(name, word) {
-        Some(rest) => rest.is_empty() || begins_with(b'=', rest),
-        None => false,
-    }
-}
-
 /// Whether a word is the one that is asked for.
 fn is_asked(asked: &[u8], word: &[u8]) -> bool
     ensures { result ≡ is_asked asked.now word.now }
 {
     if split_once(b'=', asked).is_some() {
-        word == asked
-    } else {
-        ends_name(asked, word)
+        return word == asked;
     }
-}
-
-/// Whether one of these words is the one that is asked for.
-fn any_asked(asked: &[u8], words: &[Bytes]) -> bool
-    ensures { result ≡ list_any (is_asked asked.now) words.now }
-{
-    words.iter().any(|word| is_asked(asked, word.as_slice()))
+    match following(asked, word) {
+        Some(rest) => rest.is_empty() || begins_with(b'=', rest),
+        None => false,
+    }
 }
 
 /// Whether the kernel's command line has a word, as KernelCommandLine of systemd.link(5) asks for it: `NAME=VALUE` is asked for as it
@@ -118,5 +102,5 @@ pub fn has_word(alloc: Global, asked: &[u8], line: &[u8]) -> Result<bool, AllocE
     ensures { IfOk result (λ has. has ≡ has_word asked.now line.now) }
 {
     let words = udev_words(alloc, line)?;
-    Ok(any_asked(asked, &words))
+    Ok(words.iter().any(|word| is_asked(asked, word.as_slice())))
 }

@@ -1,9 +1,9 @@
 //! The options of the builtin `hwdb`.
-ghost use Rattle.std.specs.Prelude.{◌≡◌, IfOk, Some, None, nat_lt, length, option_map, map, is_some, if◌then◌else◌};
+ghost use Rattle.std.specs.Prelude.{◌≡◌, IfOk, Some, None, option_map, map, if◌then◌else◌};
 ghost use Rattle.std.specs.List.{list_any};
 ghost use Rattle.std.specs.Option.{option_and_then};
 ghost use Rattle.text_bytes.specs.Texts.{first};
-ghost use Rattle.eval_commands.specs.Hwdb.{hwdb_of, is_bad_filter, is_known, is_option, is_unknown, last_value, operands, pattern_of, value_in};
+ghost use Rattle.eval_commands.specs.Hwdb.{hwdb_of, is_bad_filter, is_unknown, last_value, operands, pattern_of, value_in};
 
 use std::alloc::{AllocError, Global};
 use text_bytes::{Bytes, begins_with, split_once};
@@ -52,39 +52,21 @@ fn last_value<'a>(name: &[u8], words: &'a [Bytes]) -> Option<&'a [u8]>
     last
 }
 
-/// Whether a word is meant as an option.
-fn is_option(word: &[u8]) -> bool
-    ensures { result ≡ is_option word.now }
-{
-    begins_with(b'-', word)
-}
-
-/// Whether a word is one of the options.
-fn is_known(word: &[u8]) -> bool
-    ensures { result ≡ is_known word.now }
-{
-    value_in(SUBSYSTEM, word).is_some()
-        || value_in(PREFIX, word).is_some()
-        || value_in(FILTER, word).is_some()
-}
-
 /// Whether a word is an unknown option.
 fn is_unknown(word: &[u8]) -> bool
     ensures { result ≡ is_unknown word.now }
 {
-    is_option(word) && !is_known(word)
+    begins_with(b'-', word)
+        && !(value_in(SUBSYSTEM, word).is_some()
+            || value_in(PREFIX, word).is_some()
+            || value_in(FILTER, word).is_some())
 }
 
 /// Whether one of the words is an unknown option.
 fn has_unknown(words: &[Bytes]) -> bool
     ensures { result ≡ list_any is_unknown words.now }
 {
-    for word in words {
-        if is_unknown(word.as_slice()) {
-            return true;
-        }
-    }
-    false
+    words.iter().any(|word| is_unknown(word.as_slice()))
 }
 
 /// The words that are not options.
@@ -93,18 +75,11 @@ fn operands<'a>(alloc: Global, words: &'a [Bytes]) -> Result<Vec<&'a [u8]>, Allo
 {
     let mut found = Vec::new(alloc);
     for word in words {
-        if !is_option(word.as_slice()) {
+        if !begins_with(b'-', word.as_slice()) {
             found.push(word.as_slice())?;
         }
     }
     Ok(found)
-}
-
-/// Whether there are several of these words.
-fn are_several(words: &[&[u8]]) -> bool
-    ensures { result ≡ nat_lt 1 (length (map (λ t. t.now) words.now)) }
-{
-    words.len() > 1
 }
 
 /// The first of these words, if there is one.
@@ -114,17 +89,6 @@ fn first_of<'a>(words: &[&'a [u8]]) -> Option<&'a [u8]>
     match words.split_first() {
         Some((word, _)) => Some(*word),
         None => None,
-    }
-}
-
-/// The pattern that a text is; `None` if it is not a pattern.
-fn read_pattern(alloc: Global, text: &[u8]) -> Result<Option<Pattern>, AllocError>
-    ensures { IfOk result (λ found. found ≡ pattern_of text.now) }
-{
-    match Pattern::read(alloc, text) {
-        Ok(pattern) => Ok(Some(pattern)),
-        Err(GlobFault::Memory) => Err(AllocError),
-        Err(_) => Ok(None),
     }
 }
 
@@ -139,9 +103,10 @@ pub(crate) fn pattern_of(
     let Some(text) = text else {
         return Ok(Some(None));
     };
-    match read_pattern(alloc, text)? {
-        Some(pattern) => Ok(Some(Some(pattern))),
-        None => Ok(None),
+    match Pattern::read(alloc, text) {
+        Ok(pattern) => Ok(Some(Some(pattern))),
+        Err(GlobFault::Memory) => Err(AllocError),
+        Err(_) => Ok(None),
     }
 }
 
@@ -161,7 +126,7 @@ pub(crate) fn hwdb_of(alloc: Global, words: &[Bytes]) -> Result<Option<Hwdb>, Al
     ensures { IfOk result (λ hwdb. hwdb ≡ hwdb_of words.now) }
 {
     let others = operands(alloc, words)?;
-    if has_unknown(words) || are_several(&others) {
+    if has_unknown(words) || others.len() > 1 {
         return Ok(None);
     }
     let Some(filter) = pattern_of(alloc, last_value(FILTER, words))? else {

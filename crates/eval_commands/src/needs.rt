@@ -3,8 +3,7 @@ ghost use Rattle.std.specs.Prelude.{◌≡◌, ◌++◌, None, IfOk, map, option
 ghost use Rattle.trie_nodes.specs.Query.{shown};
 ghost use Rattle.text_bytes.specs.declared.profile.Profile.TheVariants.{Udev};
 ghost use Rattle.eval_commands.specs.LookUps.{candidate_with, is_last};
-ghost use Rattle.eval_commands.specs.LookUpNeeds.{device_needs, devices_seen, has_modalias, is_input_device, lookup_needs};
-ghost use Rattle.eval_commands.specs.LookUpNeeds.{modalias_word, modalias_words, parent_seen};
+ghost use Rattle.eval_commands.specs.LookUpNeeds.{devices_seen, has_modalias, lookup_needs, modalias_word, modalias_words};
 
 use crate::candidates::seen_by_udev;
 use crate::request::Request;
@@ -13,13 +12,6 @@ use device_core::{Device, Event};
 use eval_state::State;
 use std::alloc::{AllocError, Global};
 use text_bytes::{Profile, last_component};
-
-/// Whether a device is of input, and no node of one.
-fn is_input_device(device: &Device<'_>) -> bool
-    ensures { result ≡ is_input_device device.now }
-{
-    is_text(b"input", device.subsystem()) && last_component(device.path()).starts_with(b"input")
-}
 
 /// Whether udev finds a modalias of each such device on a machine.
 #[tactic(auto, unfolding(crate::specs::LookUpNeeds::has_modalias))]
@@ -31,7 +23,7 @@ fn has_modalias(device: &Device<'_>) -> bool
         || is_text(b"usb", subsystem)
         || is_text(b"hid", subsystem)
         || is_text(b"virtio", subsystem)
-        || is_input_device(device)
+        || (is_text(b"input", subsystem) && last_component(device.path()).starts_with(b"input"))
 }
 
 /// Adds the word for the modalias that a device lacks, and returns whether the device is the last one that is looked
@@ -57,26 +49,6 @@ fn add_word(
     Ok(seen.is_last(subsystem))
 }
 
-/// These words, and those for the devices above the event device that are looked at.
-fn with_parents(
-    alloc: Global,
-    event: &Event<'_>,
-    subsystem: Option<&[u8]>,
-    parents: &[Device<'_>],
-    mut words: Vec<Vec<u8>>,
-) -> Result<Vec<Vec<u8>>, AllocError>
-    ensures { IfOk result (λ all. map (λ w. w.items) all.items
-        ≡ map (λ w. w.items) words.items ++ modalias_words event.now (option_map (λ t. t.now) subsystem.entry) (map parent_seen parents.now)) }
-{
-    for device in parents {
-        let modalias = device.env().get(b"MODALIAS");
-        if add_word(alloc, event, subsystem, device, modalias, &mut words)? {
-            return Ok(words);
-        }
-    }
-    Ok(words)
-}
-
 /// The words for the modaliases that the block lacks of the devices that are looked at.
 fn modalias_words(
     alloc: Global,
@@ -99,37 +71,13 @@ fn modalias_words(
     )? {
         return Ok(words);
     }
-    with_parents(alloc, event, subsystem, event.parents(), words)
-}
-
-/// What the block would have to report if the modaliases of devices were looked up; a modalias that is given needs no
-/// device.
-fn device_needs(
-    alloc: Global,
-    request: &Request<'_>,
-    state: &State<'_>,
-) -> Result<Vec<Vec<u8>>, AllocError>
-    ensures { IfOk result (λ needs. map (λ w. w.items) needs.items ≡ device_needs state.now request.now request.now.modalias) }
-{
-    match request.modalias {
-        Some(_given) => Ok(Vec::new(alloc)),
-        None => modalias_words(alloc, request.subsystem, state),
+    for device in event.parents() {
+        let modalias = device.env().get(b"MODALIAS");
+        if add_word(alloc, event, subsystem, device, modalias, &mut words)? {
+            return Ok(words);
+        }
     }
-}
-
-/// The same for udev, by what was found.
-fn udev_needs(
-    alloc: Global,
-    request: &Request<'_>,
-    state: &State<'_>,
-    found: &[(&[u8], &[u8])],
-) -> Result<Vec<Vec<u8>>, AllocError>
-    ensures { IfOk result (λ needs. map (λ w. w.items) needs.items ≡ lookup_needs Udev state.now request.now (shown found.now)) }
-{
-    match found.split_first() {
-        Some((_first, _others)) => Ok(Vec::new(alloc)),
-        None => device_needs(alloc, request, state),
-    }
+    Ok(words)
 }
 
 /// What the block would have to report for a look-up, by what was found: for udev the modaliases of devices, if they
@@ -144,6 +92,12 @@ pub fn lookup_needs(
 {
     match state.event.event().profile() {
         Profile::Manual => Ok(Vec::new(alloc)),
-        Profile::Udev => udev_needs(alloc, request, state, found),
+        Profile::Udev => match found.split_first() {
+            Some((_first, _others)) => Ok(Vec::new(alloc)),
+            None => match request.modalias {
+                Some(_given) => Ok(Vec::new(alloc)),
+                None => modalias_words(alloc, request.subsystem, state),
+            },
+        },
     }
 }

@@ -3,7 +3,7 @@
 //! Most commands have no quotes and no filter, and are read here without a copy. All others are left to
 //! [`Builtin::read`](crate::builtin::Builtin::read).
 ghost use Rattle.std.specs.Prelude.{◌≡◌, option_map};
-ghost use Rattle.eval_commands.specs.Unquoted.{asked_of, no_request, other_name, request_from, spaced_words, with_modalias, with_option, with_value, with_word};
+ghost use Rattle.eval_commands.specs.Unquoted.{asked_of, no_request, other_name, request_from, spaced_words, with_word};
 
 use crate::hwdb::{Hwdb, PREFIX, SUBSYSTEM};
 use crate::unquoted::{cut_word, has_quote};
@@ -39,18 +39,6 @@ impl<'a> Model for Request<'a> {
 }
 
 impl<'a> Request<'a> {
-    /// What is asked for without options.
-    fn none() -> Request<'a>
-        ensures { result ≡ no_request }
-    {
-        Request {
-            subsystem: None,
-            prefix: b"",
-            filter: None,
-            modalias: None,
-        }
-    }
-
     /// What these options ask for.
     pub fn of(hwdb: &'a Hwdb) -> Request<'a>
         ensures { result ≡ hwdb.now }
@@ -63,10 +51,20 @@ impl<'a> Request<'a> {
         }
     }
 
-    /// The same with the value of an option; `None` if it is not that of a subsystem or a prefix.
-    fn with_value(self, name: &[u8], value: &'a [u8]) -> Option<Request<'a>>
-        ensures { result ≡ with_value name.now value.now self.entry }
+    /// The same with one more word; `None` if it is a second modalias, a filter or an unknown option.
+    fn with_word(self, word: &'a [u8]) -> Option<Request<'a>>
+        ensures { result ≡ with_word word.now self.entry }
     {
+        if !begins_with(b'-', word) {
+            return match self.modalias {
+                Some(_) => None,
+                None => Some(Request {
+                    modalias: Some(word),
+                    ..self
+                }),
+            };
+        }
+        let (name, value) = split_once(b'=', word)?;
         if name == SUBSYSTEM {
             return Some(Request {
                 subsystem: Some(value),
@@ -82,45 +80,16 @@ impl<'a> Request<'a> {
         None
     }
 
-    /// The same with a word that is meant as an option.
-    fn with_option(self, word: &'a [u8]) -> Option<Request<'a>>
-        ensures { result ≡ with_option word.now self.entry }
-    {
-        match split_once(b'=', word) {
-            Some((name, value)) => self.with_value(name, value),
-            None => None,
-        }
-    }
-
-    /// The same with a modalias; `None` if there is one.
-    fn with_modalias(self, word: &'a [u8]) -> Option<Request<'a>>
-        ensures { result ≡ with_modalias word.now self.entry }
-    {
-        match self.modalias {
-            Some(_) => None,
-            None => Some(Request {
-                modalias: Some(word),
-                ..self
-            }),
-        }
-    }
-
-    /// The same with one more word; `None` if it is a second modalias, a filter or an unknown option.
-    fn with_word(self, word: &'a [u8]) -> Option<Request<'a>>
-        ensures { result ≡ with_word word.now self.entry }
-    {
-        if begins_with(b'-', word) {
-            self.with_option(word)
-        } else {
-            self.with_modalias(word)
-        }
-    }
-
     /// What the words of a text ask for that spaces split.
     fn read(text: &'a [u8]) -> Option<Request<'a>>
         ensures { result ≡ request_from no_request (spaced_words text.now) }
     {
-        let mut request = Request::none();
+        let mut request = Request {
+            subsystem: None,
+            prefix: b"",
+            filter: None,
+            modalias: None,
+        };
         let mut rest = text;
         while let Some((word, after)) = cut_word(rest) {
             request = request.with_word(word)?;

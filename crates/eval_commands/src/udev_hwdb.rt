@@ -3,19 +3,13 @@
 //! An option is `--NAME=VALUE`, or `--NAME` with the value in the next word, where NAME may be the beginning of a
 //! name; or a letter after `-`, with the value in the rest of the word or in the next one. Unknown options are
 //! skipped, and so is each word after the modalias.
-ghost use Rattle.std.specs.Prelude.{◌≡◌, Some, None, option_map, IfOk, OnOk, if◌then◌else◌};
-ghost use Rattle.std.specs.Option.{option_and_then};
-ghost use Rattle.text_bytes.specs.Names.{equals};
-ghost use Rattle.text_bytes.specs.Texts.{split_once};
-ghost use Rattle.eval_commands.specs.Hwdb.{is_bad_filter, pattern_of};
-ghost use Rattle.eval_commands.specs.UdevHwdb.{asked_by, cut_given, is_of_other, letter_given, letters_given, long_given, named_given, nothing_given};
-ghost use Rattle.eval_commands.specs.UdevHwdb.{option_given};
+ghost use Rattle.std.specs.Prelude.{◌≡◌, option_map, IfOk, OnOk};
+ghost use Rattle.eval_commands.specs.UdevHwdb.{letters_given, long_given, named_given};
 ghost use Rattle.eval_commands.specs.UdevHwdb.{option_letter, option_lettered, option_name, option_named, took, udev_hwdb_of, with_option, with_word};
 
 use crate::hwdb::{Hwdb, pattern_of};
 use std::alloc::{AllocError, Global};
 use text_bytes::{Bytes, split_once};
-use text_core::Pattern;
 
 /// An option of `hwdb`.
 #[derive(Clone, Copy, PartialEq, Eq)]
@@ -104,21 +98,6 @@ impl HwdbOption {
 }
 
 impl Given {
-    /// What is given before the first word.
-    fn nothing() -> Given
-        ensures { result ≡ nothing_given }
-    {
-        Given {
-            wanted: None,
-            is_ended: false,
-            filter: None,
-            device: None,
-            subsystem: None,
-            prefix: None,
-            modalias: None,
-        }
-    }
-
     /// Gives an option a value.
     fn give(&mut self, alloc: Global, option: HwdbOption, value: &[u8]) -> Result<(), AllocError>
         ensures { OnOk result (self.new ≡ with_option option value.now self.old) }
@@ -165,16 +144,6 @@ impl Given {
         }
     }
 
-    /// Takes an option's name, perhaps with `=` and a value.
-    fn take_name(&mut self, alloc: Global, text: &[u8]) -> Result<(), AllocError>
-        ensures { OnOk result (self.new ≡ cut_given text.now (split_once equals text.now) self.old) }
-    {
-        match split_once(b'=', text) {
-            Some((name, value)) => self.take_named(alloc, HwdbOption::named(name), Some(value)),
-            None => self.take_named(alloc, HwdbOption::named(text), None),
-        }
-    }
-
     /// Takes what follows `--` in a word.
     fn take_long(&mut self, alloc: Global, text: &[u8]) -> Result<(), AllocError>
         ensures { OnOk result (self.new ≡ long_given text.now self.old) }
@@ -183,23 +152,10 @@ impl Given {
             self.is_ended = true;
             return Ok(());
         }
-        self.take_name(alloc, text)
-    }
-
-    /// Takes an option by its letter, with the rest of the word.
-    fn take_letter(
-        &mut self,
-        alloc: Global,
-        option: HwdbOption,
-        rest: &[u8],
-    ) -> Result<(), AllocError>
-        ensures { OnOk result (self.new ≡ letter_given (Some option) rest.now self.old self.old) }
-    {
-        if rest.is_empty() {
-            self.wanted = Some(option);
-            return Ok(());
+        match split_once(b'=', text) {
+            Some((name, value)) => self.take_named(alloc, HwdbOption::named(name), Some(value)),
+            None => self.take_named(alloc, HwdbOption::named(text), None),
         }
-        self.give(alloc, option, rest)
     }
 
     /// Takes the letters after `-` in a word, up to the first one that is an option.
@@ -209,22 +165,12 @@ impl Given {
         let mut left = letters;
         while let Some((letter, rest)) = left.split_first() {
             if let Some(option) = HwdbOption::lettered(*letter) {
-                return self.take_letter(alloc, option, rest);
+                let value = if rest.is_empty() { None } else { Some(rest) };
+                return self.take_named(alloc, Some(option), value);
             }
             left = rest;
         }
         Ok(())
-    }
-
-    /// Takes a word that begins with `-`, by what follows.
-    fn take_option(&mut self, alloc: Global, word: &[u8], rest: &[u8]) -> Result<(), AllocError>
-        ensures { OnOk result (self.new ≡ option_given word.now rest.now self.old) }
-    {
-        match rest.split_first() {
-            None => self.take_word(alloc, word),
-            Some((b'-', name)) => self.take_long(alloc, name),
-            Some(_) => self.take_letters(alloc, rest),
-        }
     }
 
     /// Takes the next word.
@@ -238,47 +184,13 @@ impl Given {
             return self.take_word(alloc, word);
         }
         match word.split_first() {
-            Some((b'-', rest)) => self.take_option(alloc, word, rest),
+            Some((b'-', rest)) => match rest.split_first() {
+                None => self.take_word(alloc, word),
+                Some((b'-', name)) => self.take_long(alloc, name),
+                Some(_) => self.take_letters(alloc, rest),
+            },
             _ => self.take_word(alloc, word),
         }
-    }
-
-    /// The pattern of the filter, if there is one; `None` if it is not a pattern.
-    fn pattern(&self, alloc: Global) -> Result<Option<Option<Pattern>>, AllocError>
-        ensures { IfOk result (λ found. found ≡ (if is_bad_filter self.now.filter then None else Some (option_and_then pattern_of self.now.filter))) }
-    {
-        pattern_of(alloc, self.filter.as_ref().map(Bytes::as_slice))
-    }
-
-    /// Whether the words ask to look at another device than the event's: one is named, and there is no modalias.
-    fn is_of_other(&self) -> bool
-        ensures { result ≡ is_of_other self.now }
-    {
-        self.device.is_some() && self.modalias.is_none()
-    }
-
-    /// What the words ask for; `None` if that is another device, or if the filter is not a pattern.
-    fn finish(self, alloc: Global) -> Result<Option<Hwdb>, AllocError>
-        ensures { IfOk result (λ hwdb. hwdb ≡ asked_by self) }
-    {
-        if self.is_of_other() {
-            return Ok(None);
-        }
-        let Some(filter) = self.pattern(alloc)? else {
-            return Ok(None);
-        };
-        let Given {
-            subsystem,
-            prefix,
-            modalias,
-            ..
-        } = self;
-        Ok(Some(Hwdb {
-            subsystem,
-            prefix: prefix.unwrap_or(Bytes::new(Vec::new(alloc))),
-            filter,
-            modalias,
-        }))
     }
 }
 
@@ -287,9 +199,35 @@ impl Given {
 pub(crate) fn udev_hwdb_of(alloc: Global, words: &[Bytes]) -> Result<Option<Hwdb>, AllocError>
     ensures { IfOk result (λ hwdb. hwdb ≡ udev_hwdb_of words.now) }
 {
-    let mut given = Given::nothing();
+    let mut given = Given {
+        wanted: None,
+        is_ended: false,
+        filter: None,
+        device: None,
+        subsystem: None,
+        prefix: None,
+        modalias: None,
+    };
     for word in words {
         given.take(alloc, word.as_slice())?;
     }
-    given.finish(alloc)
+    if given.device.is_some() && given.modalias.is_none() {
+        return Ok(None);
+    }
+    let pattern = pattern_of(alloc, given.filter.as_ref().map(Bytes::as_slice))?;
+    let Some(filter) = pattern else {
+        return Ok(None);
+    };
+    let Given {
+        subsystem,
+        prefix,
+        modalias,
+        ..
+    } = given;
+    Ok(Some(Hwdb {
+        subsystem,
+        prefix: prefix.unwrap_or(Bytes::new(Vec::new(alloc))),
+        filter,
+        modalias,
+    }))
 }

@@ -3,7 +3,7 @@ ghost use Rattle.std.specs.Prelude.{◌≡◌, ◌%◌, IfOk, codes};
 ghost use Rattle.text_bytes.specs.Escapes.{hex_digit};
 ghost use Rattle.text_tables.specs.Pairs.{value_of};
 ghost use Rattle.eval_state.specs.Texts.{or_empty};
-ghost use Rattle.eval_commands.specs.UsbModalias.{four_digits, made_up, number_of, text_by, usb_modalias, usb_text};
+ghost use Rattle.eval_commands.specs.UsbModalias.{four_digits, made_up, number_of, usb_text};
 
 use builtin_devices::{Base, is_of, number_in};
 use device_core::Device;
@@ -67,41 +67,20 @@ fn product_name<'a>(device: &Device<'a>) -> &'a [u8]
     device.attrs().get(b"product").unwrap_or(b"")
 }
 
-/// The text of a device by both of its numbers; a product without a name has the empty one.
-fn text_by(
-    alloc: Global,
-    device: &Device<'_>,
-    vendor: Option<u64>,
-    product: Option<u64>,
-) -> Result<Option<Bytes>, AllocError>
-    ensures { IfOk result (λ text. text ≡ text_by device.now vendor product) }
-{
-    let Some(vendor) = vendor else {
-        return Ok(None);
-    };
-    match product {
-        Some(product) => Ok(Some(usb_text(alloc, vendor, product, product_name(device))?)),
-        None => Ok(None),
-    }
-}
-
-/// The text of a device that has both numbers.
+/// What is made up for a device: something for one of USB that is no interface, by what the kernel calls its type, if it
+/// has both numbers.
 #[tactic(auto, unfolding(crate::specs::UsbModalias::usb_modalias))]
-fn usb_modalias(alloc: Global, device: &Device<'_>) -> Result<Option<Bytes>, AllocError>
-    ensures { IfOk result (λ text. text ≡ usb_modalias device.now) }
-{
-    let vendor = number_of(device, b"idVendor");
-    let product = number_of(device, b"idProduct");
-    text_by(alloc, device, vendor, product)
-}
-
-/// What is made up for a device: something for one of USB that is no interface, by what the kernel calls its type.
 pub(crate) fn made_up(alloc: Global, device: &Device<'_>) -> Result<Option<Bytes>, AllocError>
     ensures { IfOk result (λ text. text ≡ made_up device.now) }
 {
-    if is_of(b"usb", Some(b"usb_device"), device) {
-        usb_modalias(alloc, device)
-    } else {
-        Ok(None)
+    if !is_of(b"usb", Some(b"usb_device"), device) {
+        return Ok(None);
     }
+    let Some(vendor) = number_of(device, b"idVendor") else {
+        return Ok(None);
+    };
+    let Some(product) = number_of(device, b"idProduct") else {
+        return Ok(None);
+    };
+    Ok(Some(usb_text(alloc, vendor, product, product_name(device))?))
 }

@@ -1,9 +1,8 @@
 //! The words of a builtin's command.
 //!
 //! A command is read byte by byte, since a quote may open and close inside a word.
-ghost use Rattle.std.specs.Prelude.{◌≡◌, IfOk, OnOk, option_map};
-ghost use Rattle.eval_commands.specs.Words.{added, begun, closed, command_words, ended, finished_words, is_quote};
-ghost use Rattle.eval_commands.specs.Words.{quoted, separates, unread_command, took, udev_words};
+ghost use Rattle.std.specs.Prelude.{◌≡◌, IfOk, OnOk, fold, option_map};
+ghost use Rattle.eval_commands.specs.Words.{begun, command_words, ended, is_quote, unread_command, took, udev_words};
 
 use rule_tokens::is_separator;
 use std::alloc::{AllocError, Global};
@@ -44,36 +43,21 @@ pub fn is_quote(byte: u8) -> bool
     byte == b'\'' || byte == b'"'
 }
 
-/// Whether a byte separates words: by the manual a space, and for udev also a tab, a newline and a carriage return.
-fn separates(profile: Profile, byte: u8) -> bool
-    ensures { result ≡ separates profile byte }
-{
-    match profile {
-        Profile::Manual => byte == b' ',
-        Profile::Udev => is_separator(byte),
-    }
-}
-
 impl Cutter {
-    /// A command of which nothing was read, with room for a word of so many bytes.
-    fn new(alloc: Global, room: usize) -> Result<Cutter, AllocError>
-        ensures { IfOk result (λ cutter. cutter ≡ unread_command) }
-    {
-        Ok(Cutter {
-            place: Place::Between,
-            word: Vec::with_capacity(alloc, room)?,
-            words: Vec::new(alloc),
-        })
-    }
-
-    /// Adds a byte to the word.
+    /// A command that was read to its end, with room for a word of all its bytes.
     #[inline(always)]
-    fn add(&mut self, byte: u8) -> Result<(), AllocError>
-        ensures { OnOk result (self.new ≡ added byte self.old) }
+    fn read(alloc: Global, profile: Profile, text: &[u8]) -> Result<Cutter, AllocError>
+        ensures { IfOk result (λ cutter. cutter ≡ fold (took profile) unread_command text.now) }
     {
-        self.place = Place::InWord;
-        self.word.push(byte)?;
-        Ok(())
+        let mut cutter = Cutter {
+            place: Place::Between,
+            word: Vec::with_capacity(alloc, text.len())?,
+            words: Vec::new(alloc),
+        };
+        for byte in text {
+            cutter.take(alloc, profile, *byte)?;
+        }
+        Ok(cutter)
     }
 
     /// Takes a byte of a word outside of quotes that is not a space.
@@ -85,7 +69,9 @@ impl Cutter {
             self.place = Place::Quoted(byte);
             return Ok(());
         }
-        self.add(byte)
+        self.place = Place::InWord;
+        self.word.push(byte)?;
+        Ok(())
     }
 
     /// Ends the word.
@@ -97,12 +83,15 @@ impl Cutter {
         Ok(())
     }
 
-    /// Takes the next byte.
+    /// Takes the next byte. By the manual a space separates words, and for udev also a tab, a newline and a carriage return.
     #[inline(always)]
     fn take(&mut self, alloc: Global, profile: Profile, byte: u8) -> Result<(), AllocError>
         ensures { OnOk result (self.new ≡ took profile self.old byte) }
     {
-        let is_between = separates(profile, byte);
+        let is_between = match profile {
+            Profile::Manual => byte == b' ',
+            Profile::Udev => is_separator(byte),
+        };
         match self.place {
             Place::Between if is_between => Ok(()),
             Place::Between => {
@@ -111,48 +100,15 @@ impl Cutter {
             }
             Place::InWord if is_between => self.end(alloc),
             Place::InWord => self.begin(byte),
-            Place::Quoted(quote) => self.take_quoted(quote, byte),
+            Place::Quoted(quote) if byte == quote => {
+                self.place = Place::InWord;
+                Ok(())
+            }
+            Place::Quoted(_) => {
+                self.word.push(byte)?;
+                Ok(())
+            }
         }
-    }
-
-    /// Takes the next byte after a quote.
-    #[inline(always)]
-    fn take_quoted(&mut self, quote: u8, byte: u8) -> Result<(), AllocError>
-        ensures { OnOk result (self.new ≡ quoted quote byte self.old) }
-    {
-        if byte == quote {
-            self.place = Place::InWord;
-        } else {
-            self.word.push(byte)?;
-        }
-        Ok(())
-    }
-
-    /// The words of a command that was read to its end, unless a quote is open.
-    fn finish(self, alloc: Global) -> Result<Option<Vec<Bytes>>, AllocError>
-        ensures { IfOk result (λ found. option_map (λ words. words.items) found ≡ finished_words self) }
-    {
-        let mut cutter = self;
-        match cutter.place {
-            Place::Between => {}
-            Place::InWord => cutter.end(alloc)?,
-            Place::Quoted(_) => return Ok(None),
-        }
-        let Cutter { words, .. } = cutter;
-        Ok(Some(words))
-    }
-
-    /// The words of a command that was read to its end, which ends a quote that is open.
-    fn close(self, alloc: Global) -> Result<Vec<Bytes>, AllocError>
-        ensures { IfOk result (λ words. words.items ≡ closed self) }
-    {
-        let mut cutter = self;
-        match cutter.place {
-            Place::Between => {}
-            Place::InWord | Place::Quoted(_) => cutter.end(alloc)?,
-        }
-        let Cutter { words, .. } = cutter;
-        Ok(words)
     }
 }
 
@@ -162,11 +118,14 @@ impl Cutter {
 pub(crate) fn command_words(alloc: Global, text: &[u8]) -> Result<Option<Vec<Bytes>>, AllocError>
     ensures { IfOk result (λ found. option_map (λ words. words.items) found ≡ command_words text.now) }
 {
-    let mut cutter = Cutter::new(alloc, text.len())?;
-    for byte in text {
-        cutter.take(alloc, Profile::Manual, *byte)?;
+    let mut cutter = Cutter::read(alloc, Profile::Manual, text)?;
+    match cutter.place {
+        Place::Between => {}
+        Place::InWord => cutter.end(alloc)?,
+        Place::Quoted(_) => return Ok(None),
     }
-    cutter.finish(alloc)
+    let Cutter { words, .. } = cutter;
+    Ok(Some(words))
 }
 
 /// The words of a command for udev: it is split at spaces, tabs and ends of lines, and a quote that stays open ends
@@ -175,9 +134,11 @@ pub(crate) fn command_words(alloc: Global, text: &[u8]) -> Result<Option<Vec<Byt
 pub(crate) fn udev_words(alloc: Global, text: &[u8]) -> Result<Vec<Bytes>, AllocError>
     ensures { IfOk result (λ words. words.items ≡ udev_words text.now) }
 {
-    let mut cutter = Cutter::new(alloc, text.len())?;
-    for byte in text {
-        cutter.take(alloc, Profile::Udev, *byte)?;
+    let mut cutter = Cutter::read(alloc, Profile::Udev, text)?;
+    match cutter.place {
+        Place::Between => {}
+        Place::InWord | Place::Quoted(_) => cutter.end(alloc)?,
     }
-    cutter.close(alloc)
+    let Cutter { words, .. } = cutter;
+    Ok(words)
 }

@@ -1,18 +1,20 @@
 -- Names of which a block tells all.
 use Rattle.std.proofs.Common.{◌≡◌, Bool, true, false, not, ◌&&◌, ◌||◌, cond, is_none, is_some, Option, Some, None, codes, refl, ap, ◌∙◌}
+use Rattle.std.specs.Option.{option_map_or}
+use Rattle.std.specs.List.{list_any}
 use Rattle.text_bytes.specs.Names.{dot, slash}
 use Rattle.text_bytes.specs.Texts.{begins_with, split_once}
 use Rattle.text_bytes.specs.Text.{Text}
-use Rattle.text_tables.specs.Pairs.{value_of}
+use Rattle.text_tables.specs.Pairs.{names, value_of}
 use Rattle.text_tables.specs.Texts.{same_text}
 use Rattle.device_core.specs.Values.{DeviceValue, EventValue}
 use Rattle.eval_state.specs.Texts.{or_empty}
-use Rattle.eval_rendering.specs.Behind.{is_long_of_pci, is_untold, is_untold_by, is_untold_of, leads_into_hidden, links_up, may_be_untold, next_above, rest_behind}
+use Rattle.eval_rendering.specs.Behind.{is_long_of_pci, is_untold, is_untold_behind, is_untold_by, lies_in, links_up, may_be_untold, rest_behind}
 use Rattle.eval_rendering.specs.Paths.{is_path_untold, is_unread}
 
 -- a file that has no value of one line has its name, and what leads into a folder has a slash
 told : (long pci : Bool) (cut : Option (Text × Text)) (none is_pci : Bool) (device : DeviceValue) → ((long || pci) || is_some cut) ≡ false
-    → (none && ((long || (pci && is_pci)) || leads_into_hidden device cut)) ≡ false
+    → (none && ((long || (pci && is_pci)) || option_map_or (λ c. not (list_any (lies_in c.0) (names device.attrs))) cut false)) ≡ false
 told true pci cut none is_pci device h = absurd (cc)
 told false true cut none is_pci device h = absurd (cc)
 told false false (Some c) none is_pci device h = absurd (cc)
@@ -29,9 +31,9 @@ with_more true b h = absurd (cc)
 with_more false b h = refl
 
 told_by : (event : EventValue) (device : DeviceValue) (name : Text) (rest : Option Text) → may_be_untold name ≡ false → is_untold_by event device name rest ≡ false
-told_by event device name None h = told_of device name h
-told_by event device name (Some rest) h =
-    with_more (is_untold device name) (links_up event device && is_untold_of device.path rest (next_above event device)) (told_of device name h)
+told_by event device name rest h =
+    with_more (is_untold device name)
+    (option_map_or (λ behind. links_up event device && is_untold_behind event device behind) rest true) (told_of device name h)
 
 -- a name of which a block tells all is read
 pub told_name : (event : EventValue) (device : DeviceValue) (name : Text) → begins_with dot name ≡ false → may_be_untold name ≡ false → is_unread event device name ≡ false

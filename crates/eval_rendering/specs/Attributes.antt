@@ -24,14 +24,13 @@ use Rattle.eval_rendering.specs.Udev.{capped}
 abbrev pub attribute_of : EventValue → Text → ℕ → Option Text
 attribute_of event name place = option_and_then (λ device. value_of device.attrs name) (device_at event place)
 
--- whether udev renders a name: one that does not begin with `[`, and has such a byte
-abbrev pub is_rendered : Text → Bool
-is_rendered name = not (begins_with open_bracket name) && has_sign name
-
--- what udev finds for a device under a name: for a name that it renders, under the result, if that is not too long
+-- what udev finds for a device under a name: one that does not begin with `[`, and has a byte that begins a substitution, it renders,
+-- and looks under the result, if that is not too long
 abbrev pub udev_found : Text → State → DeviceValue → Option Text
 udev_found name state device =
-    if is_rendered name then option_and_then (read_value state.event device) (short (name_text name state)) else read_value state.event device name
+    if not (begins_with open_bracket name) && has_sign name
+    then option_and_then (read_value state.event device) (short (name_text name state))
+    else read_value state.event device name
 
 -- what udev reads for a device under a name
 unfoldable pub udev_value : Text → State → DeviceValue → Option Text

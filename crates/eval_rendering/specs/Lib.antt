@@ -1,6 +1,7 @@
 pub mod Beginnings
 pub mod Attributes
 pub mod Holding
+pub mod Members
 pub mod Laws
 pub mod Borrowed
 pub mod Subjects

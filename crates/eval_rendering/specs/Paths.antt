@@ -1,8 +1,8 @@
 -- The attributes that udev reads for a device: its own, those to which a path leads from its folder in sysfs, links, and those behind
 -- the link `device`.
-use Rattle.std.specs.Prelude.{ℕ, ◌==◌, ◌&&◌, Bool, false, not, if◌then◌else◌, fold, length, Option, Some, None, is_none, is_some, position, unwrap_or, codes}
+use Rattle.std.specs.Prelude.{ℕ, ◌==◌, ◌&&◌, Bool, true, if◌then◌else◌, fold, length, Option, Some, None, is_none, is_some, position, unwrap_or, codes}
 use Rattle.std.specs.List.{list_any, range_with_len}
-use Rattle.std.specs.Option.{option_and_then, option_or}
+use Rattle.std.specs.Option.{option_and_then, option_map_or, option_or}
 use Rattle.text_bytes.specs.Names.{dot, slash}
 use Rattle.text_bytes.specs.Texts.{begins_with, following}
 use Rattle.text_bytes.specs.Text.{Text}
@@ -17,49 +17,30 @@ use Rattle.eval_rendering.specs.Behind.{is_untold_by, rest_behind, value_behind}
 abbrev pub is_path : Text → Bool
 is_path name = begins_with dot name
 
--- what a path asks for once it has left a folder, if it begins with `../`
-abbrev pub left_folder : Option Text → Option Text
-left_folder name = option_and_then (following (codes "../")) name
-
--- what a path asks for after a byte of the folders that it has to leave: each of them begins with a slash
+-- what a path asks for after a byte of the folders that it has to leave: each of them begins with a slash, and `../` leaves one
 abbrev pub left_after : Option Text → ℕ → Option Text
-left_after name b = if b == slash then left_folder name else name
+left_after name b = if b == slash then option_and_then (following (codes "../")) name else name
 
--- what a path asks for once it has left folders, of which each begins with a slash
-abbrev pub left_all : (name folders : Text) → Option Text
-left_all name folders = fold left_after (Some name) folders
-
--- the same of all folders that are below a device's own; if the folders are not below that, it asks for nothing there
-abbrev pub left_below : Text → Option Text → Option Text
-left_below name None = None
-left_below name (Some folders) = if is_end (Some folders) then left_all name folders else None
-
--- a path without the `./` that it begins with
-abbrev pub without_dot : Text → Text
-without_dot name = unwrap_or (following (codes "./") name) name
-
--- a name that leads up no further
-abbrev pub ended : Option Text → Option Text
-ended None = None
-ended (Some name) = if begins_with dot name then None else Some name
+-- what a path asks for once it is without its first `./`, and has left all folders that are below a device's own; nothing, if the
+-- folders are not below that, or if it leads up further
+abbrev pub asked_below : (name folders : Text) → Option Text
+asked_below name folders =
+    let left = fold left_after (Some (unwrap_or (following (codes "./") name) name)) folders in
+    if is_end (Some folders) then option_and_then (λ asked. if begins_with dot asked then None else Some asked) left else None
 
 -- the name that a path asks for in the folder of a device, from the folder of one below it or from its own
 abbrev pub asked_in : (from name : Text) → Option DeviceValue → Option Text
-asked_in from name None = None
-asked_in from name (Some device) = ended (left_below (without_dot name) (following device.path from))
+asked_in from name device = option_and_then (λ d. option_and_then (asked_below name) (following d.path from)) device
 
 -- the place in the chain of the device to whose folder a path leads
 unfoldable pub led_place : (from name : Text) → EventValue → Option ℕ
 led_place from name event = position (λ place. is_some (asked_in from name (device_at event place))) (range_with_len 0 (length (chain event)))
 
--- the attribute of a device that a path asks for
-abbrev pub asked_value : (from name : Text) → Option DeviceValue → Option Text
-asked_value from name None = None
-asked_value from name (Some device) = option_and_then (value_of device.attrs) (asked_in from name (Some device))
-
 -- the attribute to which a path leads from a folder
 abbrev pub led_value : EventValue → (from name : Text) → Option Text
-led_value event from name = option_and_then (λ place. asked_value from name (device_at event place)) (led_place from name event)
+led_value event from name =
+    option_and_then (λ device. option_and_then (value_of device.attrs) (asked_in from name (Some device)))
+    (option_and_then (device_at event) (led_place from name event))
 
 -- the last component of the link to the driver or the subsystem of a device
 abbrev pub linked_value : DeviceValue → Text → Option Text
@@ -78,19 +59,13 @@ other_value event device name =
 abbrev pub read_value : EventValue → DeviceValue → Text → Option Text
 read_value event device name = option_or (value_of device.attrs name) (other_value event device name)
 
--- whether a name is that of a file in a folder itself, and in none below it
-abbrev pub is_file_name : Option Text → Bool
-is_file_name None = false
-is_file_name (Some name) = not (list_any (λ b. b == slash) name)
-
--- whether the block says what a path asks for: it leads to a device of the chain, and there into no other folder
-abbrev pub is_told : EventValue → (from name : Text) → Bool
-is_told event from name =
-    is_file_name (option_and_then (λ place. asked_in from name (device_at event place)) (led_place from name event))
-
--- whether a path from the folder of a device leads to what the block does not have and does not deny
+-- whether a path from the folder of a device leads to what the block does not have and does not deny: to no device of the chain, or
+-- there into another folder
 abbrev pub is_path_untold : EventValue → DeviceValue → Text → Bool
-is_path_untold event device name = is_none (read_value event device name) && not (is_told event device.path name)
+is_path_untold event device name =
+    is_none (read_value event device name)
+    && option_map_or (list_any (λ b. b == slash))
+    (option_and_then (λ place. asked_in device.path name (device_at event place)) (led_place device.path name event)) true
 
 -- whether udev may read something for a device under a name of which the block tells nothing
 unfoldable pub is_unread : EventValue → DeviceValue → Text → Bool

@@ -1,13 +1,12 @@
 //! The link `device` that the kernel puts into the folder of a device of a class, and what a block tells behind it and in folders.
-ghost use Rattle.std.specs.Prelude.{◌≡◌, ◌==◌, option_copied, option_map};
+ghost use Rattle.std.specs.Prelude.{◌≡◌, ◌==◌, false, option_copied, option_map};
 ghost use Rattle.std.specs.List.{list_any, slice_split};
 ghost use Rattle.text_bytes.specs.Names.{space};
 ghost use Rattle.text_tables.specs.Pairs.{names};
 ghost use Rattle.text_tables.specs.Texts.{same_text};
 ghost use Rattle.eval_state.specs.Chains.{device_at};
-ghost use Rattle.eval_rendering.specs.Behind.{is_above, is_bus, is_long_file, is_long_of_pci, is_of_class, is_partition, is_untold, is_untold_by};
-ghost use Rattle.eval_rendering.specs.Behind.{is_untold_of, leads_into_hidden, lies_in, linked_device, links_up, may_be_untold, next_above};
-ghost use Rattle.eval_rendering.specs.Behind.{place_above, rest_behind, value_at_link, value_behind};
+ghost use Rattle.eval_rendering.specs.Behind.{is_above, is_long_of_pci, is_of_class, is_untold, is_untold_behind, is_untold_by, leads_into_hidden};
+ghost use Rattle.eval_rendering.specs.Behind.{lies_in, linked_device, links_up, may_be_untold, next_above, place_above, rest_behind, value_behind};
 
 use device_core::Device;
 use eval_state::Chain;
@@ -28,42 +27,27 @@ fn has_word(words: &[u8], wanted: &[u8]) -> bool
     words.split(|byte| *byte == b' ').any(|word| word == wanted)
 }
 
-/// Whether a subsystem is one of the buses that the block names.
-fn is_bus(chain: &Chain<'_>, subsystem: &[u8]) -> bool
-    ensures { result ≡ is_bus chain.now subsystem.now }
+/// Whether a device of a subsystem is of a class: that is none of the buses that the block names.
+fn is_of_class(chain: &Chain<'_>, device: &Device<'_>, subsystem: &[u8]) -> bool
+    ensures { result ≡ is_of_class chain.now device.now subsystem.now }
 {
-    has_word(
-        chain.event().constants().get(b"bus").unwrap_or(b""),
-        subsystem,
-    )
+    let buses = chain.event().constants().get(b"bus").unwrap_or(b"");
+    !has_word(buses, subsystem)
+        && device.driver().is_none()
+        && device.attrs().get(b"device").is_none()
 }
 
-/// Whether a device of a subsystem is of a class.
-fn is_of_class(chain: &Chain<'_>, device: &Device<'_>, subsystem: Option<&[u8]>) -> bool
-    ensures { result ≡ is_of_class chain.now device.now (option_map (λ t. t.now) subsystem.entry) }
-{
-    match subsystem {
-        Some(subsystem) => {
-            !is_bus(chain, subsystem)
-                && device.driver().is_none()
-                && device.attrs().get(b"device").is_none()
-        }
-        None => false,
-    }
-}
-
-/// Whether a device is a part of a disk.
-fn is_partition(device: &Device<'_>) -> bool
-    ensures { result ≡ is_partition device.now }
-{
-    device.env().get(b"DEVTYPE").unwrap_or(b"") == b"partition".as_slice()
-}
-
-/// Whether the kernel puts a link to the next device above into the folder of a device.
+/// Whether the kernel puts a link to the next device above into the folder of a device: one of a class that is no part of a disk.
 fn links_up(chain: &Chain<'_>, device: &Device<'_>) -> bool
     ensures { result ≡ links_up chain.now device.now }
 {
-    is_of_class(chain, device, device.subsystem()) && !is_partition(device)
+    match device.subsystem() {
+        Some(subsystem) => {
+            is_of_class(chain, device, subsystem)
+                && device.env().get(b"DEVTYPE").unwrap_or(b"") != b"partition".as_slice()
+        }
+        None => false,
+    }
 }
 
 /// Whether there is a device, and a path leads into its folder.
@@ -104,20 +88,6 @@ pub fn linked_device<'a>(chain: &Chain<'a>, device: &Device<'_>) -> Option<&'a D
     }
 }
 
-/// An attribute of the device that the link of a device leads to.
-fn value_at_link<'a>(chain: &Chain<'a>, device: &Device<'_>, rest: &[u8]) -> Option<&'a [u8]>
-    ensures { option_map (λ t. t.now) result ≡ value_at_link chain.now device.now rest.now }
-{
-    linked_device(chain, device)?.attrs().get(rest)
-}
-
-/// What a name asks for behind the link, if it leads through it.
-fn rest_behind(name: &[u8]) -> Option<&[u8]>
-    ensures { option_map (λ t. t.now) result ≡ rest_behind name.now }
-{
-    following(b"device/", name)
-}
-
 /// The attribute that a name asks for behind the link of a device.
 pub(crate) fn value_behind<'a>(
     chain: &Chain<'a>,
@@ -126,7 +96,8 @@ pub(crate) fn value_behind<'a>(
 ) -> Option<&'a [u8]>
     ensures { option_map (λ t. t.now) result ≡ value_behind chain.now device.now name.now }
 {
-    value_at_link(chain, device, rest_behind(name)?)
+    let rest = following(b"device/", name)?;
+    linked_device(chain, device)?.attrs().get(rest)
 }
 
 /// Whether a name is that of a file of devices on PCI that has no value of one line.
@@ -134,14 +105,6 @@ fn is_long_of_pci(name: &[u8]) -> bool
     ensures { result ≡ is_long_of_pci name.now }
 {
     name == b"resource".as_slice() || name == b"config".as_slice()
-}
-
-/// Whether a file of a device has no value of one line.
-fn is_long_file(device: &Device<'_>, name: &[u8]) -> bool
-    ensures { result ≡ is_long_file device.now name.now }
-{
-    name == b"uevent".as_slice()
-        || (is_long_of_pci(name) && device.subsystem().unwrap_or(b"") == b"pci".as_slice())
 }
 
 /// Whether there may be something of which a block tells nothing under a name that is no path: it leads into a folder, or a file of this
@@ -164,11 +127,11 @@ fn any_lies_in(folder: &[u8], pairs: &Pairs<'_>) -> bool
     false
 }
 
-/// Whether a name leads into a folder of which the block shows nothing, by where its first folder ends.
-fn leads_into_hidden(device: &Device<'_>, cut: Option<(&[u8], &[u8])>) -> bool
-    ensures { result ≡ leads_into_hidden device.now (option_map (λ p. (p.0.now, p.1.now)) cut.entry) }
+/// Whether a name leads into a folder of which the block shows nothing.
+fn leads_into_hidden(device: &Device<'_>, name: &[u8]) -> bool
+    ensures { result ≡ leads_into_hidden device.now name.now }
 {
-    match cut {
+    match split_once(b'/', name) {
         Some((folder, _)) => !any_lies_in(folder, device.attrs()),
         None => false,
     }
@@ -179,16 +142,18 @@ fn is_untold(device: &Device<'_>, name: &[u8]) -> bool
     ensures { result ≡ is_untold device.now name.now }
 {
     device.attrs().get(name).is_none()
-        && (is_long_file(device, name) || leads_into_hidden(device, split_once(b'/', name)))
+        && (name == b"uevent".as_slice()
+            || (is_long_of_pci(name) && device.subsystem().unwrap_or(b"") == b"pci".as_slice())
+            || leads_into_hidden(device, name))
 }
 
-/// The same behind a link to a device.
-fn is_untold_of(path: &[u8], rest: &[u8], above: Option<&Device<'_>>) -> bool
-    ensures { result ≡ is_untold_of path.now rest.now (option_copied above.entry) }
+/// The same behind the link of a device.
+fn is_untold_behind(chain: &Chain<'_>, device: &Device<'_>, rest: &[u8]) -> bool
+    ensures { result ≡ is_untold_behind chain.now device.now rest.now }
 {
-    match above {
+    match next_above(chain, device) {
         Some(above) => is_untold(above, rest),
-        None => following(b"/devices/virtual/", path).is_none(),
+        None => following(b"/devices/virtual/", device.path()).is_none(),
     }
 }
 
@@ -197,11 +162,11 @@ fn is_untold_of(path: &[u8], rest: &[u8], above: Option<&Device<'_>>) -> bool
 pub(crate) fn is_name_untold(chain: &Chain<'_>, device: &Device<'_>, name: &[u8]) -> bool
     ensures { result ≡ is_untold_by chain.now device.now name.now (rest_behind name.now) }
 {
-    match rest_behind(name) {
+    match following(b"device/", name) {
         Some(rest) => {
             is_untold(device, name)
                 && links_up(chain, device)
-                && is_untold_of(device.path(), rest, next_above(chain, device))
+                && is_untold_behind(chain, device, rest)
         }
         None => is_untold(device, name),
     }

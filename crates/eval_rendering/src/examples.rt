@@ -1,7 +1,7 @@
 //! Values and attributes, and how udev of systemd 257 compares them.
-ghost use Rattle.std.specs.Prelude.{◌≡◌, ◌++◌, ◌∷◌, [], codes, true, false, replicate, Some};
+ghost use Rattle.std.specs.Prelude.{◌≡◌, ◌++◌, ◌∷◌, [], codes, true, false, replicate};
 ghost use Rattle.text_bytes.specs.Names.{form_feed, newline, tab, vertical_tab};
-ghost use Rattle.eval_rendering.specs.Udev.{as_spelled, compared_with, first_part, means_each, trims};
+ghost use Rattle.eval_rendering.specs.Udev.{as_spelled, compared_with, means_each, trims};
 
 /// Values of ATTR, some of which are compared with an attribute without the white space at its end.
 pub fn some_values()

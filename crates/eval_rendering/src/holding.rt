@@ -1,11 +1,11 @@
 //! How a comparison holds, by what it looks at.
-ghost use Rattle.std.specs.Prelude.{◌≡◌, map, option_map, false};
+ghost use Rattle.std.specs.Prelude.{◌≡◌, option_map, false};
 ghost use Rattle.std.specs.List.{list_any};
 ghost use Rattle.text_core.specs.Choices.{choice_fits};
 ghost use Rattle.text_core.specs.Fits.{fits};
 ghost use Rattle.eval_rendering.specs.Beginnings.{is_other_byte};
-ghost use Rattle.eval_rendering.specs.Holding.{agrees, as_compared, attribute, constant, ends_in_whitespace, holds, is_whitespace_item, members, one, unread};
-ghost use Rattle.eval_rendering.specs.Udev.{last_is};
+ghost use Rattle.eval_rendering.specs.Holding.{agrees, as_compared, attribute, holds, is_whitespace_item, members, one, unread};
+ghost use Rattle.eval_rendering.specs.Members.{listed};
 
 use rule_types::{Comparison, MatchOperator};
 use text_bytes::{is_whitespace, trimmed};
@@ -31,34 +31,16 @@ fn is_whitespace_item(item: &Item) -> bool
     }
 }
 
-/// Whether a pattern ends in a byte of whitespace.
-fn pattern_ends_in_whitespace(pattern: &Pattern) -> bool
-    ensures { result ≡ last_is is_whitespace_item pattern.now }
-{
-    match pattern.items().last() {
-        Some(item) => is_whitespace_item(item),
-        None => false,
-    }
-}
-
-/// Whether the last part of a choice ends in a byte of whitespace.
-fn ends_in_whitespace(choice: &Choice) -> bool
-    ensures { result ≡ ends_in_whitespace choice.now }
-{
-    match choice.parts().last() {
-        Some(pattern) => pattern_ends_in_whitespace(pattern),
-        None => false,
-    }
-}
-
-/// An attribute as it is compared with a choice.
+/// An attribute as it is compared with a choice: whitespace at its end counts only if the last part of the choice has some there.
 fn as_compared<'a>(choice: &Choice, text: &'a [u8]) -> &'a [u8]
     ensures { result.now ≡ as_compared choice.now text.now }
 {
-    if ends_in_whitespace(choice) {
-        text
-    } else {
-        trimmed(text)
+    let Some(pattern) = choice.parts().last() else {
+        return trimmed(text);
+    };
+    match pattern.items().last() {
+        Some(item) if is_whitespace_item(item) => text,
+        _ => trimmed(text),
     }
 }
 
@@ -114,43 +96,45 @@ pub(crate) fn attribute_holds(wanted: &Comparison, value: Option<&[u8]>) -> bool
     }
 }
 
-/// Whether a comparison holds for a constant, which may be absent.
-#[tactic(auto, unfolding(crate::specs::Holding::holds))]
-pub(crate) fn constant_holds(wanted: &Comparison, value: Option<&[u8]>) -> bool
-    ensures { result ≡ holds (constant (option_map (λ t. t.now) value.entry)) wanted.now }
-{
-    match value {
-        Some(text) => agrees(wanted.operator, wanted.choice.fits(text)),
-        None => agrees(wanted.operator, false),
-    }
+/// Texts of which some may fit.
+#[derive(Drop)]
+pub(crate) enum Members<'s> {
+    /// As rules left them.
+    Kept(&'s [Vec<u8>]),
+    /// As the event gave them.
+    Given(&'s [&'s [u8]]),
 }
 
 /// Whether one of the texts that rules left fits.
-pub(crate) fn some_fits(choice: &Choice, texts: &[Vec<u8>]) -> bool
+fn some_kept_fits(choice: &Choice, texts: &[Vec<u8>]) -> bool
     ensures { result ≡ list_any (λ t. choice_fits choice.now t.items) texts.now }
 {
     texts.iter().any(|text| choice.fits(text))
 }
 
 /// Whether one of the texts that the event gave fits.
-pub(crate) fn some_given_fits(choice: &Choice, texts: &[&[u8]]) -> bool
+fn some_given_fits(choice: &Choice, texts: &[&[u8]]) -> bool
     ensures { result ≡ list_any (λ t. choice_fits choice.now t.now) texts.now }
 {
     texts.iter().any(|text| choice.fits(text))
 }
 
-/// Whether a comparison holds for texts as rules left them.
-pub(crate) fn members_hold(wanted: &Comparison, texts: &[Vec<u8>]) -> bool
-    ensures { result ≡ holds (members (map (λ t. t.items) texts.now)) wanted.now }
+/// Whether one of the texts fits.
+pub(crate) fn some_fits(choice: &Choice, texts: &Members<'_>) -> bool
+    ensures { result ≡ list_any (choice_fits choice.now) (listed texts.now) }
 {
-    agrees(wanted.operator, some_fits(&wanted.choice, texts))
+    match texts {
+        Members::Kept(texts) => some_kept_fits(choice, texts),
+        Members::Given(texts) => some_given_fits(choice, texts),
+    }
 }
 
-/// Whether a comparison holds for texts as the event gave them.
-pub(crate) fn given_members_hold(wanted: &Comparison, texts: &[&[u8]]) -> bool
-    ensures { result ≡ holds (members (map (λ t. t.now) texts.now)) wanted.now }
+/// Whether a comparison holds for texts.
+#[tactic(auto, unfolding(crate::specs::Holding::holds))]
+pub(crate) fn members_hold(wanted: &Comparison, texts: &Members<'_>) -> bool
+    ensures { result ≡ holds (members (listed texts.now)) wanted.now }
 {
-    agrees(wanted.operator, some_given_fits(&wanted.choice, texts))
+    agrees(wanted.operator, some_fits(&wanted.choice, texts))
 }
 
 /// Whether a comparison holds for what is not read.

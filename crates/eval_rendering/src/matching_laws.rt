@@ -1,12 +1,11 @@
 //! Laws of what udev compares, each the contract of a function with an empty body.
-ghost use Rattle.std.specs.Prelude.{◌≡◌, ◌≤◌, ◌<◌, ◌==◌, ◌||◌, ◌++◌, option_map, ◌∷◌, ℕ, length, Option, Some, None, not, true, false};
+ghost use Rattle.std.specs.Prelude.{◌≡◌, ◌≤◌, ◌<◌, ◌==◌, ◌||◌, ◌++◌, option_map, ◌∷◌, ℕ, length, Option, Some, None, true, false};
 ghost use Rattle.std.specs.List.{list_all, list_any};
 ghost use Rattle.text_bytes.specs.Names.{bar, carriage_return, newline, open_bracket};
 ghost use Rattle.text_bytes.specs.Texts.{begins_with, is_empty};
 ghost use Rattle.text_bytes.specs.declared.profile.Profile.TheVariants as profile;
 ghost use Rattle.text_core.specs.Choices.{is_bar};
 ghost use Rattle.text_bytes.specs.Text.{Text};
-ghost use Rattle.text_tables.specs.Texts.{same_text};
 ghost use Rattle.text_tables.specs.Pairs.{value_of};
 ghost use Rattle.device_core.specs.Values.{DeviceValue, EventValue};
 ghost use Rattle.rule_tokens.specs.Integers.{is_separator};

@@ -2,44 +2,18 @@
 //!
 //! A match takes no memory, so such a name is put together in room of its own.
 ghost use Rattle.std.specs.Prelude.{◌≡◌, option_map};
-ghost use Rattle.std.specs.Option.{option_and_then};
 ghost use Rattle.rule_tokens.specs.Cuts.{copied};
-ghost use Rattle.eval_state.specs.Chains.{kernel_of};
 ghost use Rattle.eval_state.specs.Start.{node_path};
 ghost use Rattle.eval_state.specs.Texts.{or_empty};
 ghost use Rattle.eval_rendering.specs.Lengthened.{lengthened};
 ghost use Rattle.eval_rendering.specs.Bounds.{short};
 ghost use Rattle.eval_rendering.specs.Names.{name_piece, name_text};
-ghost use Rattle.eval_rendering.specs.Pieces.{selected_device};
 
-use crate::pieces::{major, minor, name, parent_node};
+use crate::pieces::{driver_at, kernel_at, major, minor, name, parent_node};
 use crate::short_name::ShortName;
 use crate::words::{from_word, number_as, word_at};
 use eval_state::State;
 use rule_tokens::{Cut, Piece, kept};
-
-/// The kernel's name of the device at the place that is selected, empty if none is.
-fn kernel_at<'s>(state: &'s State<'_>, selected: Option<usize>) -> &'s [u8]
-    ensures { result.now ≡ or_empty (option_map kernel_of (selected_device (record state.now { selected = selected }))) }
-{
-    match selected {
-        Some(place) => state.event.kernel_at(place).unwrap_or(b""),
-        None => b"",
-    }
-}
-
-/// The driver of the device at the place that is selected, empty if there is none.
-fn driver_at<'a>(state: &State<'a>, selected: Option<usize>) -> &'a [u8]
-    ensures { result.now ≡ or_empty (option_and_then (λ device. device.driver) (selected_device (record state.now { selected = selected }))) }
-{
-    let Some(place) = selected else {
-        return b"";
-    };
-    match state.event.device_at(place) {
-        Some(device) => device.driver().unwrap_or(b""),
-        None => b"",
-    }
-}
 
 /// Puts the path of a node after a name, if there is one.
 #[tactic(auto, using(crate::proofs::Naming::lengthened_twice))]

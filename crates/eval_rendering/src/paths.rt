@@ -1,40 +1,20 @@
 //! The attributes that udev reads for a device: its own, those to which a path leads from its folder in sysfs, links, and those behind
 //! the link `device`.
-ghost use Rattle.std.specs.Prelude.{◌≡◌, ◌==◌, is_some, option_copied, option_map};
-ghost use Rattle.std.specs.List.{list_any};
-ghost use Rattle.std.specs.Option.{option_and_then, option_or};
-ghost use Rattle.text_bytes.specs.Names.{slash};
-ghost use Rattle.eval_state.specs.Chains.{device_at};
-ghost use Rattle.eval_state.specs.Files.{is_end};
-ghost use Rattle.eval_rendering.specs.Paths.{asked_in, asked_value, ended, is_file_name, is_path, is_path_untold, is_told, is_unread, led_place, led_value};
-ghost use Rattle.eval_rendering.specs.Behind.{value_behind};
-ghost use Rattle.eval_rendering.specs.Paths.{left_after, left_all, left_below, left_folder, linked_value, other_value, read_value, without_dot};
+ghost use Rattle.std.specs.Prelude.{◌≡◌, ◌==◌, Some, fold, option_copied, option_map};
+ghost use Rattle.eval_rendering.specs.Paths.{asked_below, asked_in, is_path_untold, is_unread, led_place, led_value};
+ghost use Rattle.eval_rendering.specs.Paths.{left_after, linked_value, other_value, read_value};
 
 use crate::behind::{is_name_untold, value_behind};
 use device_core::Device;
 use eval_state::Chain;
 use text_bytes::{begins_with, following};
 
-/// Whether a name is a path that begins with `.` or `..`.
-fn is_path(name: &[u8]) -> bool
-    ensures { result ≡ is_path name.now }
-{
-    begins_with(b'.', name)
-}
-
-/// What a path asks for once it has left a folder, if it begins with `../`.
-fn left_folder<'n>(name: Option<&'n [u8]>) -> Option<&'n [u8]>
-    ensures { option_map (λ t. t.now) result ≡ left_folder (option_map (λ t. t.now) name.entry) }
-{
-    following(b"../", name?)
-}
-
-/// What a path asks for after a byte of the folders that it has to leave.
+/// What a path asks for after a byte of the folders that it has to leave: at a slash, of `../` and more what comes after that.
 fn left_after<'n>(name: Option<&'n [u8]>, byte: u8) -> Option<&'n [u8]>
     ensures { option_map (λ t. t.now) result ≡ left_after (option_map (λ t. t.now) name.entry) byte }
 {
     if byte == b'/' {
-        left_folder(name)
+        following(b"../", name?)
     } else {
         name
     }
@@ -42,7 +22,7 @@ fn left_after<'n>(name: Option<&'n [u8]>, byte: u8) -> Option<&'n [u8]>
 
 /// What a path asks for once it has left folders, of which each begins with a slash.
 fn left_all<'n>(name: &'n [u8], folders: &[u8]) -> Option<&'n [u8]>
-    ensures { option_map (λ t. t.now) result ≡ left_all name.now folders.now }
+    ensures { option_map (λ t. t.now) result ≡ fold left_after (Some name.now) folders.now }
 {
     let mut left = Some(name);
     for byte in folders {
@@ -51,41 +31,18 @@ fn left_all<'n>(name: &'n [u8], folders: &[u8]) -> Option<&'n [u8]>
     left
 }
 
-/// Whether folders are those below a device's own: there are none, or they begin with a slash.
-fn is_end(folders: &[u8]) -> bool
-    ensures { result ≡ is_end (Some folders.now) }
+/// What a path asks for once it has left all folders that are below a device's own, if it leads up no further.
+fn asked_below<'n>(name: &'n [u8], folders: &[u8]) -> Option<&'n [u8]>
+    ensures { option_map (λ t. t.now) result ≡ asked_below name.now folders.now }
 {
-    folders.is_empty() || begins_with(b'/', folders)
-}
-
-/// What a path asks for once it has left all folders that are below a device's own.
-fn left_below<'n>(name: &'n [u8], folders: Option<&[u8]>) -> Option<&'n [u8]>
-    ensures { option_map (λ t. t.now) result ≡ left_below name.now (option_map (λ t. t.now) folders.entry) }
-{
-    let folders = folders?;
-    if is_end(folders) {
-        left_all(name, folders)
-    } else {
-        None
+    if !folders.is_empty() && !begins_with(b'/', folders) {
+        return None;
     }
-}
-
-/// A path without the `./` that it begins with.
-fn without_dot(name: &[u8]) -> &[u8]
-    ensures { result.now ≡ without_dot name.now }
-{
-    following(b"./", name).unwrap_or(name)
-}
-
-/// A name that leads up no further.
-fn ended<'n>(name: Option<&'n [u8]>) -> Option<&'n [u8]>
-    ensures { option_map (λ t. t.now) result ≡ ended (option_map (λ t. t.now) name.entry) }
-{
-    let name = name?;
-    if begins_with(b'.', name) {
+    let left = left_all(following(b"./", name).unwrap_or(name), folders)?;
+    if begins_with(b'.', left) {
         None
     } else {
-        Some(name)
+        Some(left)
     }
 }
 
@@ -93,15 +50,8 @@ fn ended<'n>(name: Option<&'n [u8]>) -> Option<&'n [u8]>
 fn asked_in<'n>(from: &[u8], name: &'n [u8], device: Option<&Device<'_>>) -> Option<&'n [u8]>
     ensures { option_map (λ t. t.now) result ≡ asked_in from.now name.now (option_copied device.entry) }
 {
-    let folders = following(device?.path(), from);
-    ended(left_below(without_dot(name), folders))
-}
-
-/// Whether a path leads to the folder of the device at a place.
-fn leads_to(chain: &Chain<'_>, from: &[u8], name: &[u8], place: usize) -> bool
-    ensures { result ≡ is_some (asked_in from.now name.now (device_at chain.now place)) }
-{
-    asked_in(from, name, chain.device_at(place)).is_some()
+    let folders = following(device?.path(), from)?;
+    asked_below(name, folders)
 }
 
 /// The place in the chain of the device to whose folder a path leads.
@@ -109,15 +59,11 @@ fn leads_to(chain: &Chain<'_>, from: &[u8], name: &[u8], place: usize) -> bool
 fn led_place(chain: &Chain<'_>, from: &[u8], name: &[u8]) -> Option<usize>
     ensures { result ≡ led_place from.now name.now chain.now }
 {
-    (0..chain.event().device_count()).position(|place| leads_to(chain, from, name, place))
-}
-
-/// The attribute of a device that a path asks for.
-fn asked_value<'a>(from: &[u8], name: &[u8], device: Option<&'a Device<'a>>) -> Option<&'a [u8]>
-    ensures { option_map (λ t. t.now) result ≡ asked_value from.now name.now (option_copied device.entry) }
-{
-    let asked = asked_in(from, name, device)?;
-    device?.attrs().get(asked)
+    (0..chain.event().device_count()).position(|place| asked_in(
+        from,
+        name,
+        chain.device_at(place),
+    ).is_some())
 }
 
 /// The attribute to which a path leads from a folder.
@@ -125,7 +71,8 @@ fn led_value<'a>(chain: &Chain<'a>, from: &[u8], name: &[u8]) -> Option<&'a [u8]
     ensures { option_map (λ t. t.now) result ≡ led_value chain.now from.now name.now }
 {
     let place = led_place(chain, from, name)?;
-    asked_value(from, name, chain.device_at(place))
+    let device = chain.device_at(place)?;
+    device.attrs().get(asked_in(from, name, Some(device))?)
 }
 
 /// The last component of the link to the driver or the subsystem of a device.
@@ -141,25 +88,17 @@ fn linked_value<'a>(device: &'a Device<'a>, name: &[u8]) -> Option<&'a [u8]>
     }
 }
 
-/// A link of a device, or else an attribute behind its link `device`.
-fn linked_or_behind<'a>(chain: &Chain<'a>, device: &'a Device<'a>, name: &[u8]) -> Option<&'a [u8]>
-    ensures { option_map (λ t. t.now) result ≡ option_or (linked_value device.now name.now) (value_behind chain.now device.now name.now) }
-{
-    if let Some(value) = linked_value(device, name) {
-        return Some(value);
-    }
-    value_behind(chain, device, name)
-}
-
 /// What the block does not have under a name as it is written: the attribute to which a path leads, a link, or an attribute behind
 /// the link `device`.
 fn other_value<'a>(chain: &Chain<'a>, device: &'a Device<'a>, name: &[u8]) -> Option<&'a [u8]>
     ensures { option_map (λ t. t.now) result ≡ other_value chain.now device.now name.now }
 {
-    if is_path(name) {
-        led_value(chain, device.path(), name)
-    } else {
-        linked_or_behind(chain, device, name)
+    if begins_with(b'.', name) {
+        return led_value(chain, device.path(), name);
+    }
+    match linked_value(device, name) {
+        Some(value) => Some(value),
+        None => value_behind(chain, device, name),
     }
 }
 
@@ -177,37 +116,21 @@ pub fn read_value<'a>(chain: &Chain<'a>, device: &'a Device<'a>, name: &[u8]) ->
     }
 }
 
-/// Whether a name is that of a file in a folder itself, and in none below it.
-fn is_file_name(name: Option<&[u8]>) -> bool
-    ensures { result ≡ is_file_name (option_map (λ t. t.now) name.entry) }
-{
-    match name {
-        Some(name) => !name.contains(&b'/'),
-        None => false,
-    }
-}
-
-/// What a path asks for in the folder of the device of the chain to which it leads.
-fn asked<'n>(chain: &Chain<'_>, from: &[u8], name: &'n [u8]) -> Option<&'n [u8]>
-    ensures { option_map (λ t. t.now) result
-        ≡ option_and_then (λ place. asked_in from.now name.now (device_at chain.now place)) (led_place from.now name.now chain.now) }
-{
-    let place = led_place(chain, from, name)?;
-    asked_in(from, name, chain.device_at(place))
-}
-
-/// Whether the block says what a path asks for: it leads to a device of the chain, and there into no other folder.
-fn is_told(chain: &Chain<'_>, from: &[u8], name: &[u8]) -> bool
-    ensures { result ≡ is_told chain.now from.now name.now }
-{
-    is_file_name(asked(chain, from, name))
-}
-
-/// Whether a path leads from the folder of a device to what the block does not have and does not deny.
+/// Whether a path leads from the folder of a device to what the block does not have and does not deny: to no device of the chain, or
+/// there into another folder.
 fn is_path_untold<'a>(chain: &Chain<'a>, device: &'a Device<'a>, name: &[u8]) -> bool
     ensures { result ≡ is_path_untold chain.now device.now name.now }
 {
-    read_value(chain, device, name).is_none() && !is_told(chain, device.path(), name)
+    if read_value(chain, device, name).is_some() {
+        return false;
+    }
+    let Some(place) = led_place(chain, device.path(), name) else {
+        return true;
+    };
+    match asked_in(device.path(), name, chain.device_at(place)) {
+        Some(asked) => asked.contains(&b'/'),
+        None => true,
+    }
 }
 
 /// Whether udev may read something for a device under a name of which the block tells nothing: a path that begins with `.` and leads
@@ -217,7 +140,7 @@ fn is_path_untold<'a>(chain: &Chain<'a>, device: &'a Device<'a>, name: &[u8]) ->
 pub fn is_unread<'a>(chain: &Chain<'a>, device: &'a Device<'a>, name: &[u8]) -> bool
     ensures { result ≡ is_unread chain.now device.now name.now }
 {
-    if is_path(name) {
+    if begins_with(b'.', name) {
         is_path_untold(chain, device, name)
     } else {
         is_name_untold(chain, device, name)

@@ -12,9 +12,10 @@ ghost use Rattle.eval_rendering.specs.Pieces.{own_name, parent_node, piece_text,
 ghost use Rattle.eval_rendering.specs.Shown.{shown};
 ghost use Rattle.text_bytes.specs.Underscores.{underscored};
 
-use crate::attributes::{attribute_as, selected_device};
+use crate::attributes::attribute_as;
 use crate::bounded_text::BoundedText;
 use crate::spaced_words::spaced_word;
+use crate::upward;
 use crate::words::{from_word, number_as, word_at};
 use eval_state::{State, node_path};
 use rule_tokens::Piece;
@@ -56,22 +57,22 @@ impl<'s> PieceText<'s> {
     }
 }
 
-/// The kernel's name of the selected device, empty if there is none.
-fn selected_kernel<'s>(state: &'s State<'_>) -> &'s [u8]
-    ensures { result.now ≡ or_empty (option_map kernel_of (selected_device state.now)) }
+/// The kernel's name of the device at the place that is selected, empty if none is.
+pub(crate) fn kernel_at<'s>(state: &'s State<'_>, selected: Option<usize>) -> &'s [u8]
+    ensures { result.now ≡ or_empty (option_map kernel_of (selected_device (record state.now { selected = selected }))) }
 {
-    match state.selected {
+    match selected {
         Some(place) => state.event.kernel_at(place).unwrap_or(b""),
         None => b"",
     }
 }
 
-/// The driver of the selected device, empty if there is none.
-fn selected_driver<'a>(state: &State<'a>) -> &'a [u8]
-    ensures { result.now ≡ or_empty (option_and_then (λ device. device.driver) (selected_device state.now)) }
+/// The driver of the device at the place that is selected, empty if there is none.
+pub(crate) fn driver_at<'a>(state: &State<'a>, selected: Option<usize>) -> &'a [u8]
+    ensures { result.now ≡ or_empty (option_and_then (λ device. device.driver) (selected_device (record state.now { selected = selected }))) }
 {
-    match selected_device(state) {
-        Some(device) => device.driver().unwrap_or(b""),
+    match selected {
+        Some(place) => upward::driver_at(state, place),
         None => b"",
     }
 }
@@ -106,23 +107,16 @@ pub(crate) fn parent_node<'a>(state: &State<'a>) -> &'a [u8]
     }
 }
 
-/// The name of the event device if no rule gave one: the kernel's, or for udev the node if there is one.
-fn own_name<'s>(profile: Profile, state: &'s State<'_>) -> &'s [u8]
-    ensures { result.now ≡ own_name profile state.now.event.device }
-{
-    match profile {
-        Profile::Manual => state.event.kernel(),
-        Profile::Udev => state.event.device().node().unwrap_or(state.event.kernel()),
-    }
-}
-
-/// The assigned name, else the device's own.
+/// The assigned name, else the device's own: the kernel's, or for udev the node if there is one.
 pub(crate) fn name<'s>(profile: Profile, state: &'s State<'_>) -> &'s [u8]
     ensures { result.now ≡ unwrap_or state.now.name (own_name profile state.now.event.device) }
 {
-    match &state.name {
-        Some(name) => name.as_slice(),
-        None => own_name(profile, state),
+    if let Some(name) = &state.name {
+        return name.as_slice();
+    }
+    match profile {
+        Profile::Manual => state.event.kernel(),
+        Profile::Udev => state.event.device().node().unwrap_or(state.event.kernel()),
     }
 }
 
@@ -150,8 +144,8 @@ pub(crate) fn piece_text<'s>(
         Piece::Kernel => state.event.kernel(),
         Piece::Number => number_as(profile, state.event.kernel()),
         Piece::Devpath => state.event.device().path(),
-        Piece::Id => selected_kernel(state),
-        Piece::Driver => selected_driver(state),
+        Piece::Id => kernel_at(state, state.selected),
+        Piece::Driver => driver_at(state, state.selected),
         Piece::Attr(name) => {
             let value = attribute_as(profile, state, name.as_slice());
             return Ok(PieceText::Made(attribute_safe(alloc, trimmed(value))?));

@@ -1,10 +1,11 @@
 //! The matches of the event and its device.
-ghost use Rattle.std.specs.Prelude.{◌≡◌, map};
+ghost use Rattle.std.specs.Prelude.{◌≡◌};
 ghost use Rattle.eval_state.specs.Texts.{or_empty};
 ghost use Rattle.eval_rendering.specs.Holding.{holds, one};
+ghost use Rattle.eval_rendering.specs.Members.{listed};
 ghost use Rattle.eval_rendering.specs.Subjects.{is_known, is_not_given, members_by, named_constant, plain_subject, subsystem_by};
 
-use crate::holding::{constant_holds, members_hold, text_holds, unread_holds};
+use crate::holding::{Members, agrees, members_hold, text_holds, unread_holds};
 use crate::matched_attributes::{borrowed_holds, event_attribute};
 use crate::udev;
 use eval_state::{Chain, State};
@@ -42,16 +43,18 @@ pub fn is_not_given(name: &[u8], chain: &Chain<'_>) -> bool
     }
 }
 
-/// Whether a comparison holds for the constant of a name.
+/// Whether a comparison holds for the constant of a name, which may be absent.
 #[inline(never)]
 #[tactic(auto, unfolding(crate::specs::Holding::holds))]
 fn named_constant_holds(wanted: &Comparison, name: &[u8], state: &State<'_>) -> bool
     ensures { result ≡ holds (named_constant name.now state.now) wanted.now }
 {
-    if is_known_constant(name) {
-        constant_holds(wanted, state.event.event().constants().get(name))
-    } else {
-        false
+    if !is_known_constant(name) {
+        return false;
+    }
+    match state.event.event().constants().get(name) {
+        Some(text) => agrees(wanted.operator, wanted.choice.fits(text)),
+        None => agrees(wanted.operator, false),
     }
 }
 
@@ -66,10 +69,10 @@ fn subsystem_match_holds(wanted: &Comparison, state: &State<'_>) -> bool
     }
 }
 
-/// Whether a comparison holds for links or tags as rules left them.
+/// Whether a comparison holds for links or tags.
 #[inline(never)]
-pub(crate) fn kept_hold(wanted: &Comparison, state: &State<'_>, texts: &[Vec<u8>]) -> bool
-    ensures { result ≡ holds (members_by state.now.event.profile (map (λ t. t.items) texts.now)) wanted.now }
+pub(crate) fn texts_hold(wanted: &Comparison, state: &State<'_>, texts: &Members<'_>) -> bool
+    ensures { result ≡ holds (members_by state.now.event.profile (listed texts.now)) wanted.now }
 {
     match state.event.event().profile() {
         Profile::Manual => members_hold(wanted, texts),
@@ -100,8 +103,8 @@ pub fn plain_holds(part: &PlainMatch, state: &State<'_>) -> bool
         PlainKey::Subsystem => subsystem_match_holds(wanted, state),
         PlainKey::Driver => text_holds(wanted, device.driver().unwrap_or(b"")),
         PlainKey::Name => text_holds(wanted, name(state)),
-        PlainKey::Symlink => kept_hold(wanted, state, state.links.as_slice()),
-        PlainKey::Tag => kept_hold(wanted, state, state.tags.as_slice()),
+        PlainKey::Symlink => texts_hold(wanted, state, &Members::Kept(state.links.as_slice())),
+        PlainKey::Tag => texts_hold(wanted, state, &Members::Kept(state.tags.as_slice())),
         PlainKey::Attr(name) => borrowed_holds(wanted, &event_attribute(state, name.as_slice())),
         PlainKey::Sysctl(_) => unread_holds(wanted),
         PlainKey::Env(name) => text_holds(wanted, state.property(name.as_slice())),

@@ -1,7 +1,7 @@
 //! A template, rendered.
 ghost use Rattle.std.specs.Prelude.{◌≡◌, IfOk, OnOk, option_map};
 ghost use Rattle.eval_rendering.specs.Bounds.{joined};
-ghost use Rattle.eval_rendering.specs.Rendering.{as_rendered, finished_text, is_one_word, is_raw, render, rendered_as_udev, text_in};
+ghost use Rattle.eval_rendering.specs.Rendering.{as_rendered, is_one_word, is_raw, render, rendered_as_udev, text_in};
 
 use crate::attributes::has_long;
 use crate::bounded_text::BoundedText;
@@ -54,23 +54,16 @@ fn push_piece(
     }
 }
 
-/// A whole text: in a link it is made safe.
-fn finished_text(alloc: Global, text: Vec<u8>, mode: Mode) -> Result<Vec<u8>, AllocError>
-    ensures { IfOk result (λ whole. whole.items ≡ finished_text mode text.items) }
-{
-    match mode {
-        Mode::Plain => Ok(text),
-        Mode::Link => link_safe(alloc, &text),
-    }
-}
-
-/// A text as it is returned.
+/// A text as it is returned: in a link it is made safe.
 fn as_rendered(alloc: Global, text: Option<Vec<u8>>, mode: Mode) -> Result<Rendered, AllocError>
     ensures { IfOk result (λ rendered. rendered ≡ as_rendered mode (option_map (λ t. t.items) text)) }
 {
-    match text {
-        Some(text) => Ok(Rendered::Text(Bytes::new(finished_text(alloc, text, mode)?))),
-        None => Ok(Rendered::TooLong),
+    let Some(text) = text else {
+        return Ok(Rendered::TooLong);
+    };
+    match mode {
+        Mode::Plain => Ok(Rendered::Text(Bytes::new(text))),
+        Mode::Link => Ok(Rendered::Text(Bytes::new(link_safe(alloc, &text)?))),
     }
 }
 

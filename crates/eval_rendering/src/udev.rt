@@ -1,15 +1,16 @@
 //! How udev of systemd 257 compares, where this differs from the manual.
-ghost use Rattle.std.specs.Prelude.{◌≡◌, ◌≤◌, codes, length, map, not, option_map};
+ghost use Rattle.std.specs.Prelude.{◌≡◌, ◌≤◌, length, map, not, option_map};
 ghost use Rattle.std.specs.Char.{to_ascii_lowercase};
-ghost use Rattle.std.specs.List.{list_any, prefix_len, suffix_len};
+ghost use Rattle.std.specs.List.{prefix_len, suffix_len};
 ghost use Rattle.text_tables.specs.Texts.{same_text};
 ghost use Rattle.text_core.specs.Choices.{choice_fits, is_bar};
 ghost use Rattle.rule_tokens.specs.Integers.{is_separator};
 ghost use Rattle.eval_rendering.specs.Holding.{holds, udev_attribute, udev_members, udev_subsystem};
-ghost use Rattle.eval_rendering.specs.Udev.{as_spelled, capped, compared_with, first_part, means_each, members_fit, subsystem_fits, trims, without_end};
+ghost use Rattle.eval_rendering.specs.Members.{listed};
+ghost use Rattle.eval_rendering.specs.Udev.{capped, compared_with, first_part, means_each, members_fit, subsystem_fits, trims, without_end};
 
 use crate::bounds::MAX_VALUE_BYTES;
-use crate::holding::{agrees, some_fits, some_given_fits};
+use crate::holding::{Members, agrees, some_fits};
 use rule_tokens::is_separator;
 use rule_types::Comparison;
 use text_bytes::is_whitespace;
@@ -28,35 +29,19 @@ fn same_in_any_case(text: &[u8], other: &[u8]) -> bool
     text.eq_ignore_ascii_case(other)
 }
 
-/// Whether a text is one of these words, ignoring the case of ASCII letters.
-fn means_each_in_any_case(text: &[u8]) -> bool
-    ensures { result ≡ means_each (map to_ascii_lowercase text.now) }
-{
-    same_in_any_case(text, b"subsystem")
-        || same_in_any_case(text, b"bus")
-        || same_in_any_case(text, b"class")
-}
-
-/// Whether a subsystem is one of these words.
-fn is_spelled(blind: bool, text: &[u8]) -> bool
-    ensures { result ≡ means_each (as_spelled blind text.now) }
-{
-    if blind {
-        means_each_in_any_case(text)
-    } else {
-        means_each(text)
-    }
-}
-
-/// Whether a subsystem fits.
+/// Whether a subsystem fits: each of the three words, alone in a value, fits each of the three.
 fn subsystem_fits(wanted: &Comparison, text: &[u8]) -> bool
     ensures { result ≡ subsystem_fits wanted.now text.now }
 {
-    if means_each(wanted.written.as_slice()) {
-        is_spelled(wanted.blind, text)
-    } else {
-        wanted.choice.fits(text)
+    if !means_each(wanted.written.as_slice()) {
+        return wanted.choice.fits(text);
     }
+    if !wanted.blind {
+        return means_each(text);
+    }
+    same_in_any_case(text, b"subsystem")
+        || same_in_any_case(text, b"bus")
+        || same_in_any_case(text, b"class")
 }
 
 /// Whether a comparison holds for a subsystem.
@@ -67,41 +52,19 @@ pub(crate) fn subsystem_holds(wanted: &Comparison, text: &[u8]) -> bool
     agrees(wanted.operator, subsystem_fits(wanted, text))
 }
 
-/// Whether a value is `?*`.
-fn is_something(wanted: &Comparison) -> bool
-    ensures { result ≡ same_text wanted.now.written (codes "?*") }
+/// Whether texts fit: `?*` fits whatever they are.
+fn members_fit(wanted: &Comparison, texts: &Members<'_>) -> bool
+    ensures { result ≡ members_fit wanted.now (listed texts.now) }
 {
-    wanted.written.as_slice() == b"?*".as_slice()
+    wanted.written.as_slice() == b"?*".as_slice() || some_fits(&wanted.choice, texts)
 }
 
-/// Whether texts as rules left them fit.
-fn members_fit(wanted: &Comparison, texts: &[Vec<u8>]) -> bool
-    ensures { result ≡ members_fit wanted.now (map (λ t. t.items) texts.now) }
-{
-    is_something(wanted) || some_fits(&wanted.choice, texts)
-}
-
-/// Whether texts as the event gave them fit.
-fn given_members_fit(wanted: &Comparison, texts: &[&[u8]]) -> bool
-    ensures { result ≡ members_fit wanted.now (map (λ t. t.now) texts.now) }
-{
-    is_something(wanted) || some_given_fits(&wanted.choice, texts)
-}
-
-/// Whether a comparison holds for texts as rules left them.
+/// Whether a comparison holds for texts.
 #[tactic(auto, unfolding(crate::specs::Holding::holds))]
-pub(crate) fn members_hold(wanted: &Comparison, texts: &[Vec<u8>]) -> bool
-    ensures { result ≡ holds (udev_members (map (λ t. t.items) texts.now)) wanted.now }
+pub(crate) fn members_hold(wanted: &Comparison, texts: &Members<'_>) -> bool
+    ensures { result ≡ holds (udev_members (listed texts.now)) wanted.now }
 {
     agrees(wanted.operator, members_fit(wanted, texts))
-}
-
-/// Whether a comparison holds for texts as the event gave them.
-#[tactic(auto, unfolding(crate::specs::Holding::holds))]
-pub(crate) fn given_members_hold(wanted: &Comparison, texts: &[&[u8]]) -> bool
-    ensures { result ≡ holds (udev_members (map (λ t. t.now) texts.now)) wanted.now }
-{
-    agrees(wanted.operator, given_members_fit(wanted, texts))
 }
 
 /// How many bars a text begins with.

@@ -1,19 +1,17 @@
 //! The matches of one device, and the search for it along the chain.
-ghost use Rattle.std.specs.Prelude.{◌≡◌, map, option_map};
+ghost use Rattle.std.specs.Prelude.{◌≡◌};
 ghost use Rattle.std.specs.List.{list_all};
 ghost use Rattle.std.specs.Option.{option_and_then};
 ghost use Rattle.eval_state.specs.Texts.{or_empty};
 ghost use Rattle.eval_state.specs.Chains.{device_at};
-ghost use Rattle.eval_rendering.specs.Holding.{holds, one};
-ghost use Rattle.eval_rendering.specs.Subjects.{found_place, holds_at, members_by, tags_at, up_subject};
+ghost use Rattle.eval_rendering.specs.Holding.{holds};
+ghost use Rattle.eval_rendering.specs.Subjects.{found_place, holds_at, members_by, tags_at};
 
-use crate::holding::{given_members_hold, text_holds};
+use crate::holding::{Members, text_holds};
 use crate::matched_attributes::{attribute_at, borrowed_holds};
-use crate::plain::kept_hold;
-use crate::udev;
+use crate::plain::texts_hold;
 use eval_state::State;
 use rule_types::{Comparison, UpKey, UpMatch};
-use text_bytes::Profile;
 
 /// The subsystem of the device at a place, empty if there is none.
 pub fn subsystem_at<'a>(state: &State<'a>, place: usize) -> &'a [u8]
@@ -35,26 +33,16 @@ pub fn driver_at<'a>(state: &State<'a>, place: usize) -> &'a [u8]
     }
 }
 
-/// Whether a comparison holds for tags as the event gave them.
-fn given_hold(wanted: &Comparison, state: &State<'_>, texts: &[&[u8]]) -> bool
-    ensures { result ≡ holds (members_by state.now.event.profile (map (λ t. t.now) texts.now)) wanted.now }
-{
-    match state.event.event().profile() {
-        Profile::Manual => given_members_hold(wanted, texts),
-        Profile::Udev => udev::given_members_hold(wanted, texts),
-    }
-}
-
 /// Whether a comparison holds for the tags of the device at a place.
 fn tags_hold(wanted: &Comparison, state: &State<'_>, place: usize) -> bool
     ensures { result ≡ holds (members_by state.now.event.profile (tags_at state.now place)) wanted.now }
 {
     if place == 0 {
-        return kept_hold(wanted, state, state.tags.as_slice());
+        return texts_hold(wanted, state, &Members::Kept(state.tags.as_slice()));
     }
     match state.event.device_at(place) {
-        Some(device) => given_hold(wanted, state, device.tags().as_slice()),
-        None => given_hold(wanted, state, &[]),
+        Some(device) => texts_hold(wanted, state, &Members::Given(device.tags().as_slice())),
+        None => texts_hold(wanted, state, &Members::Given(&[])),
     }
 }
 

@@ -1,6 +1,5 @@
 //! Parts of texts that substitutions ask for.
-ghost use Rattle.std.specs.Prelude.{◌≡◌, ◌≤◌, not, length, drop};
-ghost use Rattle.std.specs.List.{prefix_len};
+ghost use Rattle.std.specs.Prelude.{◌≡◌, ◌≤◌, length};
 ghost use Rattle.text_bytes.specs.Names.{is_whitespace};
 ghost use Rattle.text_bytes.specs.Texts.{skip_while};
 ghost use Rattle.eval_rendering.specs.Pieces.{number_as};
@@ -26,13 +25,6 @@ fn from_first_word(text: &[u8]) -> &[u8]
     text.split_at(leading_whitespace(text)).1
 }
 
-/// A text without its first word and the whitespace after that.
-fn from_next_word(text: &[u8]) -> &[u8]
-    ensures { result.now ≡ skip_while is_whitespace (drop (word_len text.now) text.now) }
-{
-    from_first_word(text.split_at(word_len(text)).1)
-}
-
 /// A text from its word with a number on; the first word has the number 0. No more words are skipped than the text
 /// has.
 pub(crate) fn from_word(number: u16, text: &[u8]) -> &[u8]
@@ -43,7 +35,7 @@ pub(crate) fn from_word(number: u16, text: &[u8]) -> &[u8]
         if rest.is_empty() {
             return rest;
         }
-        rest = from_next_word(rest);
+        rest = from_first_word(rest.split_at(word_len(rest)).1);
     }
     rest
 }

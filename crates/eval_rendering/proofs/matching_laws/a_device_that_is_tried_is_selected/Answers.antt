@@ -4,7 +4,7 @@ use Rattle.device_core.specs.Values.{DeviceValue}
 use Rattle.eval_state.specs.Chains.{device_at}
 use Rattle.eval_state.specs.Named.{named}
 use Rattle.eval_rendering.specs.Attributes.{attribute_by, is_elsewhere, is_unread_at, named_value, told_subject, udev_subject, udev_value, value_by, written_value}
-use Rattle.eval_rendering.specs.Holding.{udev_attribute, udev_unread}
+use Rattle.eval_rendering.specs.Holding.{udev_unread}
 use Rattle.eval_rendering.specs.Subjects.{tried}
 use Rattle.eval_rendering.proofs.matching_laws.a_device_that_is_tried_is_selected.Goals as goal
 

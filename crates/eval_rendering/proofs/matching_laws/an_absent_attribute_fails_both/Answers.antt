@@ -3,7 +3,7 @@ use Rattle.text_bytes.specs.Text.{Text}
 use Rattle.rule_types.specs.declared.part.Comparison.{Comparison}
 use Rattle.eval_state.specs.Named.{named}
 use Rattle.eval_rendering.specs.Attributes.{attribute_by, is_elsewhere, is_unread_at, named_value, told_subject, udev_subject, udev_value, value_by, written_value}
-use Rattle.eval_rendering.specs.Holding.{holds, udev_attribute, udev_unread}
+use Rattle.eval_rendering.specs.Holding.{holds, udev_unread}
 use Rattle.eval_rendering.proofs.matching_laws.an_absent_attribute_fails_both.Goals as goal
 
 fails : (wanted : Comparison) (untold : Bool) → holds (told_subject untold None) wanted ≡ false

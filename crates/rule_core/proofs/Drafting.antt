@@ -5,7 +5,7 @@ use Rattle.file_messages.specs.declared.message.MessageKind.{MessageKind}
 use Rattle.rule_tokens.specs.Grammar.{Item}
 use Rattle.rule_core.specs.Drafts.{Draft, part_of_item, parts_of, with_part}
 use Rattle.rule_core.specs.Rules.{name_of, rule_at}
-use Rattle.rule_core.specs.Taking.{Kinds, rule_with, sorted_kinds}
+use Rattle.rule_core.specs.Taking.{sorted_rule}
 use Rattle.rule_types.specs.Tokens.{WrittenPart, parts_in}
 use Rattle.rule_types.specs.declared.jumps.Landing.{Landing}
 use Rattle.rule_types.specs.Rules.{Rule}
@@ -49,19 +49,15 @@ pub items_ended : (by : Profile) (line : List ℕ) (before : List WrittenPart) (
 items_ended by line before left all h e =
     sym h ∙ ap (λ (x : List Item). prepended_to before (parts_of by line x)) e ∙ ap Ok (append-nil before)
 
--- a rule of names and parts
-pub rule_made : (name : List ℕ) (line : ℕ) (label goto : Option (List ℕ)) (j k : Kinds) → j ≡ k → rule_with name line label goto j ≡ rule_with name line label goto k
-rule_made name line label goto j k e = ap (rule_with name line label goto) e
-
--- the same for the names and the parts of a draft
-pub rule_is : (by : Profile) (name : List ℕ) (line : ℕ) (d : Draft) (l : Landing) (label goto : Option (List ℕ)) (parts : List WrittenPart) (r : Rule) → r ≡ rule_with name line label goto (sorted_kinds by (parts_in parts))
+-- a rule of the names and the parts of a draft
+pub rule_is : (by : Profile) (name : List ℕ) (line : ℕ) (d : Draft) (l : Landing) (label goto : Option (List ℕ)) (parts : List WrittenPart) (r : Rule) → r ≡ sorted_rule by name line label goto (parts_in parts)
     → label ≡ name_of d.label → goto ≡ cond l.lost None (name_of d.goto) → parts ≡ d.parts → r ≡ rule_at by name line d l
 rule_is by name line d l label goto parts r e f g h =
     e
-    ∙ ap (λ (x : Option (List ℕ)). rule_with name line x goto (sorted_kinds by (parts_in parts))) f
-    ∙ ap (λ (x : Option (List ℕ)). rule_with name line (name_of d.label) x (sorted_kinds by (parts_in parts))) g
-    ∙ ap (λ (x : List WrittenPart). rule_with name line (name_of d.label) (cond l.lost None (name_of d.goto)) (sorted_kinds by (parts_in x))) h
+    ∙ ap (λ (x : Option (List ℕ)). sorted_rule by name line x goto (parts_in parts)) f
+    ∙ ap (λ (x : Option (List ℕ)). sorted_rule by name line (name_of d.label) x (parts_in parts)) g
+    ∙ ap (λ (x : List WrittenPart). sorted_rule by name line (name_of d.label) (cond l.lost None (name_of d.goto)) (parts_in x)) h
 
 -- the jump that is kept
-pub kept_is : (kept name : Option (List ℕ)) (given : Option NamePlace) (d : Draft) (l : Landing) → kept ≡ cond l.lost None name → name ≡ name_of given → given ≡ d.goto → kept ≡ cond l.lost None (name_of d.goto)
-kept_is kept name given d l k n g = k ∙ ap (λ (x : Option (List ℕ)). cond l.lost None x) n ∙ ap (λ (x : Option NamePlace). cond l.lost None (name_of x)) g
+pub kept_is : (kept : Option (List ℕ)) (given : Option NamePlace) (d : Draft) (l : Landing) → kept ≡ cond l.lost None (name_of given) → given ≡ d.goto → kept ≡ cond l.lost None (name_of d.goto)
+kept_is kept given d l k g = k ∙ ap (λ (x : Option NamePlace). cond l.lost None (name_of x)) g

@@ -1,5 +1,4 @@
 pub mod Walking
-mod Ends
 pub mod Sorting
 pub mod Taking
 mod Drafting

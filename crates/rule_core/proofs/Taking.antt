@@ -6,13 +6,14 @@ use Rattle.std.proofs.lemmas.List.{map-append}
 use Rattle.std.proofs.lemmas.List.Elements.{filter_map-append}
 use Rattle.file_messages.specs.declared.message.MessageKind.{MessageKind}
 use Rattle.rule_tokens.specs.Grammar.{Placed}
+use Rattle.rule_types.specs.Rules.{Rule}
 use Rattle.rule_types.specs.declared.part.Part.{Part}
 use Rattle.rule_types.specs.declared.part.Part.TheVariants as part
 use Rattle.text_bytes.specs.declared.profile.Profile.{Profile}
 use Rattle.text_bytes.specs.declared.profile.Profile.TheVariants.{Manual, Udev}
 use Rattle.text_bytes.specs.Texts.{first, last}
 use Rattle.rule_core.specs.Drafts.{act_in, again_in, assignment_in, given_again, given_again_after, goto_at, label_again, label_among, label_at, name_place, plain_in, result_in, up_in}
-use Rattle.rule_core.specs.Taking.{Kinds, RuleNames, again, first_given, kinds_of, label_given, label_said, names_given, with_kind, with_name}
+use Rattle.rule_core.specs.Taking.{RuleNames, again, first_given, label_given, label_said, names_given, with_kind, with_name, written_rule}
 use Rattle.rule_types.specs.Tokens.{WrittenPart, parts_in}
 use Rattle.rule_core.specs.declared.names.NamePlace.{NamePlace}
 use Rattle.rule_types.specs.declared.spot.Spot.{Spot}
@@ -107,31 +108,33 @@ names_next by parts i w before now h e b f =
     ∙ ap (λ (n : ℕ). names_given by (take n parts)) (sym next)
 
 -- one part more
-same_kinds : (j k : Kinds) → j.plain ≡ k.plain → j.up ≡ k.up → j.acts ≡ k.acts → j.results ≡ k.results → j.sets ≡ k.sets → j ≡ k
-same_kinds j k p u a r s = λ i. record { plain = p i; up = u i; acts = a i; results = r i; sets = s i }
+same_rule : (j k : Rule) → j.file ≡ k.file → j.line ≡ k.line → j.label ≡ k.label → j.goto ≡ k.goto → j.plain ≡ k.plain → j.up ≡ k.up → j.acts ≡ k.acts → j.results ≡ k.results → j.sets ≡ k.sets → j ≡ k
+same_rule j k f n l g p u a r s = λ i. record { file = f i; line = n i; label = l i; goto = g i; plain = p i; up = u i; acts = a i; results = r i; sets = s i }
 
-one_kind_more : (parts : List Part) (p : Part) → kinds_of (parts ++ p ∷ []) ≡ with_kind (kinds_of parts) p
-one_kind_more parts (part.Plain m) =
+one_kind_more : (file : List ℕ) (line : ℕ) (label goto : Option (List ℕ)) (parts : List Part) (p : Part) → written_rule file line label goto (parts ++ p ∷ []) ≡ with_kind (written_rule file line label goto parts) p
+one_kind_more file line label goto parts (part.Plain m) =
     let p : Part = part.Plain m in
-    same_kinds (kinds_of (parts ++ p ∷ [])) (with_kind (kinds_of parts) p) (one_after plain_in parts p m refl) (none_after up_in parts p refl) (none_after act_in parts p refl) (none_after result_in parts p refl) (none_after assignment_in parts p refl)
-one_kind_more parts (part.Up m) =
+    same_rule (written_rule file line label goto (parts ++ p ∷ [])) (with_kind (written_rule file line label goto parts) p) refl refl refl refl (one_after plain_in parts p m refl) (none_after up_in parts p refl) (none_after act_in parts p refl) (none_after result_in parts p refl) (none_after assignment_in parts p refl)
+one_kind_more file line label goto parts (part.Up m) =
     let p : Part = part.Up m in
-    same_kinds (kinds_of (parts ++ p ∷ [])) (with_kind (kinds_of parts) p) (none_after plain_in parts p refl) (one_after up_in parts p m refl) (none_after act_in parts p refl) (none_after result_in parts p refl) (none_after assignment_in parts p refl)
-one_kind_more parts (part.Act a) =
+    same_rule (written_rule file line label goto (parts ++ p ∷ [])) (with_kind (written_rule file line label goto parts) p) refl refl refl refl (none_after plain_in parts p refl) (one_after up_in parts p m refl) (none_after act_in parts p refl) (none_after result_in parts p refl) (none_after assignment_in parts p refl)
+one_kind_more file line label goto parts (part.Act a) =
     let p : Part = part.Act a in
-    same_kinds (kinds_of (parts ++ p ∷ [])) (with_kind (kinds_of parts) p) (none_after plain_in parts p refl) (none_after up_in parts p refl) (one_after act_in parts p a refl) (none_after result_in parts p refl) (none_after assignment_in parts p refl)
-one_kind_more parts (part.Result c) =
+    same_rule (written_rule file line label goto (parts ++ p ∷ [])) (with_kind (written_rule file line label goto parts) p) refl refl refl refl (none_after plain_in parts p refl) (none_after up_in parts p refl) (one_after act_in parts p a refl) (none_after result_in parts p refl) (none_after assignment_in parts p refl)
+one_kind_more file line label goto parts (part.Result c) =
     let p : Part = part.Result c in
-    same_kinds (kinds_of (parts ++ p ∷ [])) (with_kind (kinds_of parts) p) (none_after plain_in parts p refl) (none_after up_in parts p refl) (none_after act_in parts p refl) (one_after result_in parts p c refl) (none_after assignment_in parts p refl)
-one_kind_more parts (part.Set a) =
+    same_rule (written_rule file line label goto (parts ++ p ∷ [])) (with_kind (written_rule file line label goto parts) p) refl refl refl refl (none_after plain_in parts p refl) (none_after up_in parts p refl) (none_after act_in parts p refl) (one_after result_in parts p c refl) (none_after assignment_in parts p refl)
+one_kind_more file line label goto parts (part.Set a) =
     let p : Part = part.Set a in
-    same_kinds (kinds_of (parts ++ p ∷ [])) (with_kind (kinds_of parts) p) (none_after plain_in parts p refl) (none_after up_in parts p refl) (none_after act_in parts p refl) (none_after result_in parts p refl) (one_after assignment_in parts p a refl)
-one_kind_more parts (part.Label name) =
+    same_rule (written_rule file line label goto (parts ++ p ∷ [])) (with_kind (written_rule file line label goto parts) p) refl refl refl refl (none_after plain_in parts p refl) (none_after up_in parts p refl) (none_after act_in parts p refl) (none_after result_in parts p refl) (one_after assignment_in parts p a refl)
+one_kind_more file line label goto parts (part.Label name) =
     let p : Part = part.Label name in
-    same_kinds (kinds_of (parts ++ p ∷ [])) (kinds_of parts) (none_after plain_in parts p refl) (none_after up_in parts p refl) (none_after act_in parts p refl) (none_after result_in parts p refl) (none_after assignment_in parts p refl)
-one_kind_more parts (part.Goto name) =
+    same_rule (written_rule file line label goto (parts ++ p ∷ [])) (with_kind (written_rule file line label goto parts) p) refl refl refl refl (none_after plain_in parts p refl) (none_after up_in parts p refl) (none_after act_in parts p refl) (none_after result_in parts p refl) (none_after assignment_in parts p refl)
+one_kind_more file line label goto parts (part.Goto name) =
     let p : Part = part.Goto name in
-    same_kinds (kinds_of (parts ++ p ∷ [])) (kinds_of parts) (none_after plain_in parts p refl) (none_after up_in parts p refl) (none_after act_in parts p refl) (none_after result_in parts p refl) (none_after assignment_in parts p refl)
+    same_rule (written_rule file line label goto (parts ++ p ∷ [])) (with_kind (written_rule file line label goto parts) p) refl refl refl refl (none_after plain_in parts p refl) (none_after up_in parts p refl) (none_after act_in parts p refl) (none_after result_in parts p refl) (none_after assignment_in parts p refl)
 
-pub one_more_part : (parts : List WrittenPart) (w : WrittenPart) → kinds_of (parts_in (parts ++ w ∷ [])) ≡ with_kind (kinds_of (parts_in parts)) w.part
-one_more_part parts w = ap kinds_of (map-append (λ (v : WrittenPart). v.part) parts (w ∷ [])) ∙ one_kind_more (parts_in parts) w.part
+pub one_more_part : (name : List ℕ) (line : ℕ) (label goto : Option (List ℕ)) (parts : List WrittenPart) (w : WrittenPart)
+    → written_rule name line label goto (parts_in (parts ++ w ∷ [])) ≡ with_kind (written_rule name line label goto (parts_in parts)) w.part
+one_more_part name line label goto parts w =
+    ap (written_rule name line label goto) (map-append (λ (v : WrittenPart). v.part) parts (w ∷ [])) ∙ one_kind_more name line label goto (parts_in parts) w.part

@@ -5,7 +5,7 @@ use Rattle.text_bytes.specs.Numbers.{capped}
 use Rattle.text_bytes.specs.declared.profile.Profile.{Profile}
 use Rattle.text_bytes.specs.declared.profile.Profile.TheVariants.{Manual, Udev}
 use Rattle.rule_core.specs.Lines.{Joined, NumberedLine, Piece, is_comment, is_empty, is_open, joined, joined_as, joined_lines, kept, lines, lines_of_runs, numbered_from, open_number, open_of_runs, piece_of, run_number, run_text, runs, unindented}
-use Rattle.rule_core.specs.Steps.{SoFar, after, ended, line_of, number_of_both, reported_open, sofar}
+use Rattle.rule_core.specs.Steps.{SoFar, after, ended, line_of, number_of_both, sofar}
 
 abbrev piece : ℕ → List ℕ → Bool → Piece
 piece n t c = record { number = n; text = t; continues = c }
@@ -84,7 +84,7 @@ step : (by : Profile) (last : ℕ) (s : SoFar) (p : Piece) (ps : List Piece) →
 step by last s p ps = step_of by last s.lines s.pending p.number p.text p.continues ps
 
 -- no piece more
-reported_alone : (by : Profile) (last : ℕ) (p : Piece) → open_number by last (p ∷ []) ≡ reported_open by last p.number
+reported_alone : (by : Profile) (last : ℕ) (p : Piece) → open_number by last (p ∷ []) ≡ number_of_both by p.number last
 reported_alone Manual last p = refl
 reported_alone Udev last p = refl
 

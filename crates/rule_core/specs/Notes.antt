@@ -53,10 +53,6 @@ pub record Outlines : Type 0 where
   pub silent : List Bool
   pub tokens : ℕ
 
--- what is kept of no lines
-abbrev pub no_outline : Outlines
-no_outline = record { names = []; named = []; silent = []; tokens = 0 }
-
 -- what is kept of lines and of one more
 abbrev pub with_outline : Outlines → Result Draft (Spot MessageKind) → Outlines
 with_outline o read = record {

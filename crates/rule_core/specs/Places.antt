@@ -4,19 +4,13 @@ use Rattle.text_bytes.specs.Text.{Text}
 use Rattle.text_bytes.specs.declared.profile.Profile.{Profile}
 use Rattle.file_messages.specs.declared.message.MessageKind.{MessageKind}
 use Rattle.rule_tokens.specs.Grammar.{AllAre, Placed, is_gap_byte}
-use Rattle.file_messages.specs.declared.message.MessageKind.TheVariants.{CommaExpected}
-use Rattle.rule_core.specs.Style.{between, gap_findings, leading_findings, style_after, style_findings, whole_gap}
+use Rattle.rule_core.specs.Style.{between, gap_findings, leading_findings, style_after, style_findings}
 use Rattle.rule_types.specs.declared.spot.Spot.{Spot}
 
 -- the gap before a token, from the place where the token before it ends, if there is one
 abbrev pub findings_before : Profile → Text → Option ℕ → Placed → List (Spot MessageKind)
 findings_before profile line None t = leading_findings profile (between 0 t.span.start line)
 findings_before profile line (Some place) t = gap_findings profile (between place t.span.start line) t
-
--- the gap at the end of a line, from the place where its last token ends, if there is one
-abbrev pub findings_at_end : Text → Option ℕ → List (Spot MessageKind)
-findings_at_end line None = []
-findings_at_end line (Some place) = whole_gap CommaExpected place (drop place line)
 
 -- the tokens after the place where a token ends, or all of them
 abbrev pub findings_from : Profile → Text → Option ℕ → List Placed → List (Spot MessageKind)

@@ -32,15 +32,10 @@ line_of p = if is_empty p.text then [] else record { number = capped p.number; t
 abbrev pub after : Profile → SoFar → Piece → SoFar
 after profile s p = if p.continues then sofar s.lines (Some (onto profile s.pending p)) else sofar (s.lines ++ line_of (onto profile s.pending p)) None
 
--- the number with which an open piece is reported if the last line of its file has this number
-abbrev pub reported_open : Profile → ℕ → ℕ → ℕ
-reported_open Manual last number = number
-reported_open Udev last number = last
-
 -- the number with which the open piece is reported, if there is one
 abbrev pub open_at : Profile → ℕ → Option Piece → Option ℕ
 open_at profile last None = None
-open_at profile last (Some p) = Some (capped (reported_open profile last p.number))
+open_at profile last (Some p) = Some (capped (number_of_both profile p.number last))
 
 -- no more pieces, in a file whose last line has this number
 abbrev pub ended : Profile → ℕ → SoFar → Joined

@@ -7,12 +7,7 @@ use Rattle.text_bytes.specs.Texts.{first}
 use Rattle.file_messages.specs.declared.message.MessageKind.{MessageKind}
 use Rattle.rule_tokens.specs.Grammar.{Placed}
 use Rattle.rule_types.specs.Rules.{Rule}
-use Rattle.rule_types.specs.declared.part.Act.{Act}
-use Rattle.rule_types.specs.declared.part.Assignment.{Assignment}
-use Rattle.rule_types.specs.declared.part.Comparison.{Comparison}
 use Rattle.rule_types.specs.declared.part.Part.{Part}
-use Rattle.rule_types.specs.declared.part.PlainMatch.{PlainMatch}
-use Rattle.rule_types.specs.declared.part.UpMatch.{UpMatch}
 use Rattle.rule_types.specs.declared.part.Part.TheVariants as part
 use Rattle.rule_core.specs.Drafts.{act_in, acts_of, assignment_in, given_again_after, given_twice, goto_at, label_among}
 use Rattle.rule_core.specs.Drafts.{label_at, lost_name, name_place, plain_in, result_in, sets_of, up_in}
@@ -61,17 +56,13 @@ with_name profile n t (part.Label name) =
 with_name profile n t (part.Goto name) = record n { goto = first_given n.goto (name_place t name); findings = n.findings ++ again n.goto (name_place t name) }
 with_name profile n t _ = n
 
--- parts by what they are for
-pub record Kinds : Type 0 where
-  pub plain : List PlainMatch
-  pub up : List UpMatch
-  pub acts : List Act
-  pub results : List Comparison
-  pub sets : List Assignment
-
--- parts by what they are for, in written order
-abbrev pub kinds_of : List Part → Kinds
-kinds_of parts = record {
+-- a rule of these names and of these parts, all as they are written
+abbrev pub written_rule : Text → ℕ → Option Text → Option Text → List Part → Rule
+written_rule name line label goto parts = record {
+  file = name;
+  line = line;
+  label = label;
+  goto = goto;
   plain = filter_map plain_in parts;
   up = filter_map up_in parts;
   acts = filter_map act_in parts;
@@ -80,19 +71,14 @@ kinds_of parts = record {
 }
 
 -- the same, those that act and those that assign in the order of evaluation
-abbrev pub sorted_kinds : Profile → List Part → Kinds
-sorted_kinds profile parts = record (kinds_of parts) { acts = acts_of parts; sets = sets_of profile parts }
+abbrev pub sorted_rule : Profile → Text → ℕ → Option Text → Option Text → List Part → Rule
+sorted_rule profile name line label goto parts = record (written_rule name line label goto parts) { acts = acts_of parts; sets = sets_of profile parts }
 
 -- one more part
-abbrev pub with_kind : Kinds → Part → Kinds
-with_kind k (part.Plain m) = record k { plain = k.plain ++ m ∷ [] }
-with_kind k (part.Up m) = record k { up = k.up ++ m ∷ [] }
-with_kind k (part.Act a) = record k { acts = k.acts ++ a ∷ [] }
-with_kind k (part.Result c) = record k { results = k.results ++ c ∷ [] }
-with_kind k (part.Set a) = record k { sets = k.sets ++ a ∷ [] }
-with_kind k _ = k
-
--- a rule of these names and these parts
-abbrev pub rule_with : Text → ℕ → Option Text → Option Text → Kinds → Rule
-rule_with name line label goto k =
-    record { file = name; line = line; label = label; goto = goto; plain = k.plain; up = k.up; acts = k.acts; results = k.results; sets = k.sets }
+abbrev pub with_kind : Rule → Part → Rule
+with_kind r (part.Plain m) = record r { plain = r.plain ++ m ∷ [] }
+with_kind r (part.Up m) = record r { up = r.up ++ m ∷ [] }
+with_kind r (part.Act a) = record r { acts = r.acts ++ a ∷ [] }
+with_kind r (part.Result c) = record r { results = r.results ++ c ∷ [] }
+with_kind r (part.Set a) = record r { sets = r.sets ++ a ∷ [] }
+with_kind r _ = r

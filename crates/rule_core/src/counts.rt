@@ -1,6 +1,6 @@
 //! How many tokens are left in the rules of lines.
 ghost use Rattle.std.specs.Prelude.{◌≡◌, IfOk};
-ghost use Rattle.rule_core.specs.Counts.{draft_tokens, is_counted, line_tokens, token_count};
+ghost use Rattle.rule_core.specs.Counts.{draft_tokens, is_counted, token_count};
 
 use crate::draft::Draft;
 use crate::readings::LandedReading;
@@ -17,19 +17,11 @@ pub fn token_count(lines: &[LandedReading<'_>]) -> Result<usize, AllocError>
 {
     let mut count = 0;
     for line in lines {
-        count = sum_of(count, line_tokens(line)?)?;
+        if let Ok(draft) = &line.reading.read {
+            count = sum_of(count, draft_tokens(draft, line.landing)?)?;
+        }
     }
     Ok(count)
-}
-
-/// How many tokens are left in the rule of a line, if it is one.
-fn line_tokens(line: &LandedReading<'_>) -> Result<usize, AllocError>
-    ensures { IfOk result (λ count. count ≡ line_tokens line.now.0.read line.now.1) }
-{
-    match &line.reading.read {
-        Ok(draft) => draft_tokens(draft, line.landing),
-        Err(_) => Ok(0),
-    }
 }
 
 /// How many tokens are left in a rule: its names for jumps, and its other parts.

@@ -1,7 +1,6 @@
 //! Reading a joined line.
-ghost use Rattle.std.specs.Prelude.{◌≡◌, option_map, IfOk, MatchResult, Ok};
-ghost use Rattle.rule_core.specs.Drafts.{draft, draft_of, draft_with, idle_spot, items_as, most_bytes, part_of_item, parts_of, written_part};
-ghost use Rattle.rule_parts.specs.Parts.{part_of};
+ghost use Rattle.std.specs.Prelude.{◌≡◌, MatchResult, Ok};
+ghost use Rattle.rule_core.specs.Drafts.{draft_of, draft_with, items_as, part_of_item, parts_of};
 ghost use Rattle.rule_core.specs.Faults.{FaultOf};
 
 use crate::draft::Draft;
@@ -15,8 +14,8 @@ use crate::style::add_style;
 use file_messages::MessageKind;
 use rule_parts::{PartFault, read_part};
 use rule_tokens::{Token, TokenFault};
-use rule_types::{Spot, WrittenPart};
-use std::alloc::{AllocError, Global};
+use rule_types::WrittenPart;
+use std::alloc::Global;
 use text_bytes::Profile;
 
 /// The most bytes of a joined line by the manual.
@@ -35,23 +34,20 @@ pub(crate) fn read_draft(
 ) -> Result<Draft<'_>, LineFault>
     ensures { MatchResult result (λ d. draft_of profile line.now ≡ Ok d) (λ f. FaultOf f (draft_of profile line.now)) }
 {
-    if line.len() > most_bytes(profile) {
+    let most_bytes = match profile {
+        Profile::Manual => MAX_BYTES,
+        Profile::Udev => MAX_UDEV_BYTES,
+    };
+    if line.len() > most_bytes {
         let kind = MessageKind::LineTooLong;
         return Err(LineFault::Wrong(whole_spot(alloc, kind, line)));
     }
-    read_short(alloc, profile, line)
-}
-
-/// Reads a joined line that is not too long.
-fn read_short(alloc: Global, profile: Profile, line: &[u8]) -> Result<Draft<'_>, LineFault>
-    ensures { MatchResult result (λ d. draft_with profile line.now (parts_of profile line.now (items_as profile line.now)) ≡ Ok d)
-        (λ f. FaultOf f (draft_with profile line.now (parts_of profile line.now (items_as profile line.now)))) }
-{
     let parts = read_parts(alloc, profile, line)?;
     draft_with(alloc, profile, line, parts)
 }
 
-/// The draft of tokens that were read; udev also drops a rule without effect.
+/// The draft of tokens that were read. udev also drops a rule without effect: it has an option that udev does not
+/// know, and so leaves out, or nothing but matches.
 fn draft_with<'a>(
     alloc: Global,
     profile: Profile,
@@ -63,34 +59,25 @@ fn draft_with<'a>(
 {
     let lacks = lacks_effect(alloc, profile, &parts)?;
     if lacks {
-        let option = unknown_option(alloc, &parts)?;
-        return Err(LineFault::Wrong(idle_spot(alloc, line, option)?));
+        let found = match unknown_option(alloc, &parts)? {
+            None => whole_spot(alloc, MessageKind::RuleWithoutEffect, line),
+            Some(token) => part_spot(alloc, MessageKind::BadValue, token)?,
+        };
+        return Err(LineFault::Wrong(found));
     }
-    Ok(draft(alloc, profile, line, parts)?)
-}
-
-/// Why a rule has no effect: it has an option that udev does not know, and so leaves out, or nothing but matches.
-fn idle_spot(
-    alloc: Global,
-    line: &[u8],
-    option: Option<&Token<'_>>,
-) -> Result<Spot<MessageKind>, AllocError>
-    ensures { IfOk result (λ found. found ≡ idle_spot line.now (option_map (λ t. t.now) option.entry)) }
-{
-    match option {
-        None => Ok(whole_spot(alloc, MessageKind::RuleWithoutEffect, line)),
-        Some(token) => part_spot(alloc, MessageKind::BadValue, token),
-    }
-}
-
-/// The most bytes of a joined line: 16,384, for udev 16,383.
-fn most_bytes(profile: Profile) -> usize
-    ensures { result ≡ most_bytes profile }
-{
-    match profile {
-        Profile::Manual => MAX_BYTES,
-        Profile::Udev => MAX_UDEV_BYTES,
-    }
+    let RuleNames {
+        label,
+        goto,
+        findings,
+    } = RuleNames::of(alloc, profile, &parts)?;
+    let mut findings = findings;
+    add_style(alloc, profile, &mut findings, line, &parts)?;
+    Ok(Draft {
+        label,
+        goto,
+        parts,
+        findings,
+    })
 }
 
 /// The tokens of a line with their parts, up to the first with a fault, which is then what is wrong.
@@ -120,49 +107,13 @@ fn read_item<'a>(
     ensures { MatchResult result (λ w. part_of_item profile line.now item.entry ≡ Ok w) (λ f. FaultOf f (part_of_item profile line.now item.entry)) }
 {
     match item {
-        Ok(token) => read_token(alloc, profile, token),
+        Ok(token) => match read_part(alloc, profile, &token) {
+            Ok(part) => Ok(WrittenPart { token, part }),
+            Err(PartFault::Wrong(found)) => {
+                Err(LineFault::Wrong(part_spot(alloc, found.kind, &token)?))
+            }
+            Err(PartFault::Memory) => Err(LineFault::Memory),
+        },
         Err(fault) => Err(LineFault::Wrong(token_spot(alloc, fault, line)?)),
     }
-}
-
-/// A token with the part of a rule that it is.
-fn read_token<'a>(
-    alloc: Global,
-    profile: Profile,
-    token: Token<'a>,
-) -> Result<WrittenPart<'a>, LineFault>
-    ensures { MatchResult result (λ w. written_part token.entry (part_of profile token.entry) ≡ Ok w)
-        (λ f. FaultOf f (written_part token.entry (part_of profile token.entry))) }
-{
-    match read_part(alloc, profile, &token) {
-        Ok(part) => Ok(WrittenPart { token, part }),
-        Err(PartFault::Wrong(found)) => {
-            Err(LineFault::Wrong(part_spot(alloc, found.kind, &token)?))
-        }
-        Err(PartFault::Memory) => Err(LineFault::Memory),
-    }
-}
-
-/// The draft of the tokens of a line.
-fn draft<'a>(
-    alloc: Global,
-    profile: Profile,
-    line: &'a [u8],
-    parts: Vec<WrittenPart<'a>>,
-) -> Result<Draft<'a>, AllocError>
-    ensures { IfOk result (λ d. d ≡ draft profile line.now parts.entry.items) }
-{
-    let RuleNames {
-        label,
-        goto,
-        findings,
-    } = RuleNames::of(alloc, profile, &parts)?;
-    let mut findings = findings;
-    add_style(alloc, profile, &mut findings, line, &parts)?;
-    Ok(Draft {
-        label,
-        goto,
-        parts,
-        findings,
-    })
 }

@@ -1,8 +1,6 @@
 //! Whether the tokens of a line do anything but compare.
-ghost use Rattle.std.specs.Prelude.{◌≡◌, Bool, not, option_map, IfOk};
-ghost use Rattle.std.specs.List.{list_any};
-ghost use Rattle.rule_types.specs.Names.{key_of};
-ghost use Rattle.rule_core.specs.Effects.{acts_compared, has_effect, is_unknown_option, lacks_effect, unknown_option};
+ghost use Rattle.std.specs.Prelude.{◌≡◌, option_map, IfOk};
+ghost use Rattle.rule_core.specs.Effects.{has_effect, is_unknown_option, lacks_effect, unknown_option};
 ghost use Rattle.rule_types.specs.Tokens.{tokens_in};
 
 use rule_parts::is_known_option;
@@ -21,7 +19,14 @@ pub(crate) fn lacks_effect(
 {
     match profile {
         Profile::Manual => Ok(false),
-        Profile::Udev => Ok(!some_has_effect(alloc, parts)?),
+        Profile::Udev => {
+            for written in parts {
+                if has_effect(alloc, &written.token)? {
+                    return Ok(false);
+                }
+            }
+            Ok(true)
+        }
     }
 }
 
@@ -40,18 +45,6 @@ pub(crate) fn unknown_option<'w, 'a>(
     Ok(None)
 }
 
-/// Whether a token has an effect for udev.
-fn some_has_effect(alloc: Global, parts: &[WrittenPart<'_>]) -> Result<bool, AllocError>
-    ensures { IfOk result (λ some. some ≡ list_any has_effect (tokens_in parts.now)) }
-{
-    for written in parts {
-        if has_effect(alloc, &written.token)? {
-            return Ok(true);
-        }
-    }
-    Ok(false)
-}
-
 /// Whether a token does more than compare: it assigns something other than an option that udev does not know, runs
 /// a command or takes properties.
 #[tactic(auto, unfolding(crate::specs::Effects::has_effect))]
@@ -59,20 +52,13 @@ pub fn has_effect(alloc: Global, token: &Token<'_>) -> Result<bool, AllocError>
     ensures { IfOk result (λ has. has ≡ has_effect token.now) }
 {
     if token.operator().compares() {
-        Ok(acts_compared(token.key()))
+        match key_of(token.key()) {
+            Some(Key::Program) => Ok(true),
+            Some(Key::Import) => Ok(true),
+            _ => Ok(false),
+        }
     } else {
         Ok(!is_unknown_option(alloc, token)?)
-    }
-}
-
-/// Whether a key does something even when it is compared.
-fn acts_compared(key: &[u8]) -> bool
-    ensures { result ≡ acts_compared (key_of key.now) }
-{
-    match key_of(key) {
-        Some(Key::Program) => true,
-        Some(Key::Import) => true,
-        _ => false,
     }
 }
 

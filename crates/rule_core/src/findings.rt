@@ -5,6 +5,7 @@ ghost use Rattle.rule_core.specs.Rules.{findings_of, line_findings, name_spot};
 use crate::draft::Draft;
 use crate::names::NamePlace;
 use crate::readings::{LandedReading, Reading};
+use crate::spot::whole_spot;
 use file_messages::MessageKind;
 use rule_types::{Landing, Spot};
 use std::alloc::{AllocError, Global};
@@ -20,7 +21,16 @@ pub fn line_findings(
     let LandedReading { reading, landing } = line;
     let Reading { read, .. } = reading;
     match read {
-        Ok(draft) => findings_of(alloc, draft, landing),
+        Ok(draft) => {
+            let Draft {
+                label,
+                goto,
+                parts,
+                findings,
+            } = draft;
+            drop(parts);
+            findings_of(alloc, &label, &goto, findings, landing)
+        }
         Err(wrong) => {
             let mut found = Vec::new(alloc);
             found.push(wrong)?;
@@ -29,73 +39,47 @@ pub fn line_findings(
     }
 }
 
-/// The findings about a rule: first about its jump, and about its label last.
-fn findings_of(
+/// The findings about a rule with these names and findings: first about its jump, and about its label last.
+pub(crate) fn findings_of(
     alloc: Global,
-    draft: Draft<'_>,
+    label: &Option<NamePlace>,
+    goto: &Option<NamePlace>,
+    findings: Vec<Spot<MessageKind>>,
     landing: Landing,
 ) -> Result<Vec<Spot<MessageKind>>, AllocError>
-    ensures { IfOk result (λ found. found.items ≡ findings_of draft.entry landing) }
+    ensures { IfOk result (λ found. found.items
+        ≡ findings_of (record { label = label.now; goto = goto.now; parts = []; findings = findings.items }) landing) }
 {
-    let Draft {
-        label,
-        goto,
-        parts,
-        findings,
-    } = draft;
-    drop(parts);
     let mut findings = findings;
     let mut found = Vec::new(alloc);
-    add_name(
-        alloc,
-        &mut found,
-        landing.lost,
-        MessageKind::NoLaterLabel,
-        goto,
-    )?;
+    let lost = MessageKind::NoLaterLabel;
+    let unused = MessageKind::LabelUnused;
+    add_name(alloc, &mut found, landing.lost, lost, goto)?;
     found.append(&mut findings)?;
-    add_name(
-        alloc,
-        &mut found,
-        landing.unused,
-        MessageKind::LabelUnused,
-        label,
-    )?;
+    add_name(alloc, &mut found, landing.unused, unused, label)?;
     Ok(found)
 }
 
-/// Adds a finding about a name, if anything is wrong with it.
+/// Adds a finding about a name, which is empty if there is none, if anything is wrong with it.
 fn add_name(
     alloc: Global,
     found: &mut Vec<Spot<MessageKind>>,
     wrong: bool,
     kind: MessageKind,
-    given: Option<NamePlace>,
+    given: &Option<NamePlace>,
 ) -> Result<(), AllocError>
-    ensures { OnOk result (found.new.items ≡ found.old.items ++ (if wrong then name_spot kind given ∷ [] else [])) }
+    ensures { OnOk result (found.new.items ≡ found.old.items ++ (if wrong then name_spot kind given.now ∷ [] else [])) }
 {
     if wrong {
-        found.push(name_spot(alloc, kind, given))?;
+        match given {
+            None => found.push(whole_spot(alloc, kind, &[]))?,
+            Some(given) => found.push(Spot {
+                kind,
+                word: Bytes::copy_of(alloc, given.name.as_slice())?,
+                start: given.start,
+                size: given.size,
+            })?,
+        }
     }
     Ok(())
-}
-
-/// A finding about a name, which is empty if there is none.
-fn name_spot(alloc: Global, kind: MessageKind, given: Option<NamePlace>) -> Spot<MessageKind>
-    ensures { result ≡ name_spot kind given }
-{
-    match given {
-        None => Spot {
-            kind,
-            word: Bytes::new(Vec::new(alloc)),
-            start: 0,
-            size: 0,
-        },
-        Some(NamePlace { name, start, size }) => Spot {
-            kind,
-            word: name,
-            start,
-            size,
-        },
-    }
 }

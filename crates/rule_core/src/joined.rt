@@ -1,38 +1,27 @@
 //! The joined lines of a file, as they are given to a caller.
 ghost use Rattle.std.specs.Prelude.{◌≡◌};
-ghost use Rattle.rule_core.specs.Lines.{joined_as};
-ghost use Rattle.text_bytes.specs.Numbers.{capped};
 
-use crate::text::Text;
+use std::alloc::Global;
+use std::borrow::CowSlice;
 use std::marker::Model;
-use text_bytes::capped;
 
 /// A joined line of a rules file: the text of a rule, which may borrow the file.
 #[derive(Drop)]
 pub struct JoinedLine<'a> {
-    number: u32,
-    text: Text<'a>,
+    pub(crate) number: u32,
+    pub(crate) text: CowSlice<'a, u8, Global>,
 }
 
 impl<'a> Model for JoinedLine<'a> {
+    ghost use Rattle.std.specs.Cow.{cow_slice_items};
     ghost use Rattle.rule_core.specs.Lines.{NumberedLine};
 
     ghost Value = { NumberedLine };
 
-    ghost view = { λ l. record { number = l.number; text = l.text } };
+    ghost view = { λ l. record { number = l.number; text = cow_slice_items l.text } };
 }
 
 impl<'a> JoinedLine<'a> {
-    /// The joined line of a text that is reported with the line of this number.
-    pub(crate) fn new(number: usize, text: Text<'a>) -> JoinedLine<'a>
-        ensures { result ≡ record { number = capped number; text = text.entry } }
-    {
-        JoinedLine {
-            number: capped(number),
-            text,
-        }
-    }
-
     /// The number of the first line of the file that is part of this one, or for udev of the last, counted from 1
     /// and at most 2^32 - 1. A comment before or after it is not part of it.
     pub fn number(&self) -> u32
@@ -52,8 +41,8 @@ impl<'a> JoinedLine<'a> {
 /// The joined lines of a rules file.
 #[derive(Drop)]
 pub struct JoinedLines<'a> {
-    lines: Vec<JoinedLine<'a>>,
-    open_at: Option<u32>,
+    pub(crate) lines: Vec<JoinedLine<'a>>,
+    pub(crate) open_at: Option<u32>,
 }
 
 impl<'a> Model for JoinedLines<'a> {
@@ -65,13 +54,6 @@ impl<'a> Model for JoinedLines<'a> {
 }
 
 impl<'a> JoinedLines<'a> {
-    /// The joined lines, and the number with which an open one is reported.
-    pub(crate) fn new(lines: Vec<JoinedLine<'a>>, open_at: Option<u32>) -> JoinedLines<'a>
-        ensures { result ≡ joined_as lines.entry.items open_at }
-    {
-        JoinedLines { lines, open_at }
-    }
-
     /// The joined lines that are not empty, in the order of the file.
     pub fn lines(&self) -> &[JoinedLine<'a>]
         ensures { result.now ≡ self.now.lines }

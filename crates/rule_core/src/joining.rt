@@ -2,31 +2,33 @@
 //! by the next, and comments are skipped wherever they are.
 //!
 //! A continued line is reported with the number of its first line, and for udev with that of its last.
-ghost use Rattle.std.specs.Prelude.{◌≡◌, [], None, IfOk, OnOk, length};
+ghost use Rattle.std.specs.Prelude.{◌≡◌, ◌++◌, IfOk, OnOk, length};
+ghost use Rattle.std.specs.Cow.{cow_slice_items};
 ghost use Rattle.rule_core.specs.Lines.{joined_lines, lines};
-ghost use Rattle.rule_core.specs.Steps.{after, ended, number_of_both, reported_open, sofar};
+ghost use Rattle.rule_core.specs.Steps.{after, ended, number_of_both};
 
 use crate::joined::{JoinedLine, JoinedLines};
-use crate::pieces::{Piece, is_comment, piece_of, unindented_line};
-use crate::text::Text;
+use crate::pieces::{Piece, piece_of};
 use std::alloc::{AllocError, Global};
+use std::borrow::CowSlice;
 use std::marker::Model;
-use text_bytes::{Lines, Profile, capped};
+use text_bytes::{Lines, Profile, begins_with, capped, unindented};
 
 /// A joined line of which all lines so far end in a backslash.
 #[derive(Drop)]
 struct OpenLine<'a> {
     number: usize,
-    text: Text<'a>,
+    text: CowSlice<'a, u8, Global>,
 }
 
 impl<'a> Model for OpenLine<'a> {
     ghost use Rattle.std.specs.Prelude.{true};
+    ghost use Rattle.std.specs.Cow.{cow_slice_items};
     ghost use Rattle.rule_core.specs.Lines.{Piece};
 
     ghost Value = { Piece };
 
-    ghost view = { λ o. record { number = o.number; text = o.text; continues = true } };
+    ghost view = { λ o. record { number = o.number; text = cow_slice_items o.text; continues = true } };
 }
 
 /// What the lines so far have given.
@@ -45,31 +47,22 @@ impl<'a> Model for Joining<'a> {
 }
 
 impl<'a> Joining<'a> {
-    /// No line so far.
-    fn new(alloc: Global) -> Joining<'a>
-        ensures { result ≡ sofar [] None }
-    {
-        Joining {
-            lines: Vec::new(alloc),
-            pending: None,
-        }
-    }
-
     /// Takes what the next kept line gives.
     fn take(&mut self, alloc: Global, profile: Profile, piece: &Piece<'a>) -> Result<(), AllocError>
         ensures { OnOk result (self.new ≡ after profile self.old piece.now) }
     {
         let (number, text) = match self.pending.take() {
-            None => (piece.number, Text::whole(piece.text)),
+            None => (piece.number, CowSlice::Borrowed(piece.text)),
             Some(begun) => (
                 number_of_both(profile, begun.number, piece.number),
-                begun.text.continued(alloc, piece.text)?,
+                continued(alloc, begun.text, piece.text)?,
             ),
         };
         if piece.continues {
             self.pending = Some(OpenLine { number, text });
         } else if !text.as_slice().is_empty() {
-            self.lines.push(JoinedLine::new(number, text))?;
+            let number = capped(number);
+            self.lines.push(JoinedLine { number, text })?;
         }
         Ok(())
     }
@@ -80,30 +73,42 @@ impl<'a> Joining<'a> {
     {
         let open_at = match &self.pending {
             None => None,
-            Some(begun) => Some(capped(reported_open(profile, begun.number, bytes))),
+            Some(begun) => {
+                let number = number_of_both(profile, begun.number, line_count(bytes));
+                Some(capped(number))
+            }
         };
-        JoinedLines::new(self.lines, open_at)
+        JoinedLines {
+            lines: self.lines,
+            open_at,
+        }
     }
 }
 
-/// The number with which two lines in a row are reported together.
+/// A text with more bytes after it.
+fn continued<'a>(
+    alloc: Global,
+    text: CowSlice<'a, u8, Global>,
+    more: &[u8],
+) -> Result<CowSlice<'a, u8, Global>, AllocError>
+    ensures { IfOk result (λ t. cow_slice_items t ≡ cow_slice_items text.entry ++ more.now) }
+{
+    let mut bytes = match text {
+        CowSlice::Borrowed(bytes) => Vec::from_slice(alloc, bytes)?,
+        CowSlice::Owned(bytes) => bytes,
+    };
+    bytes.extend_from_slice(more)?;
+    Ok(CowSlice::Owned(bytes))
+}
+
+/// The number with which two lines in a row are reported together, or one that is open at the end of its file and the
+/// last line of the file.
 fn number_of_both(profile: Profile, earlier: usize, later: usize) -> usize
     ensures { result ≡ number_of_both profile earlier later }
 {
     match profile {
         Profile::Manual => earlier,
         Profile::Udev => later,
-    }
-}
-
-/// The number with which a line that is open at the end of its file is reported; the one given is that of the
-/// manual.
-fn reported_open(profile: Profile, number: usize, bytes: &[u8]) -> usize
-    ensures { result ≡ reported_open profile (length (lines bytes.now)) number }
-{
-    match profile {
-        Profile::Manual => number,
-        Profile::Udev => line_count(bytes),
     }
 }
 
@@ -132,10 +137,13 @@ pub fn joined_lines<'a>(
 ) -> Result<JoinedLines<'a>, AllocError>
     ensures { IfOk result (λ joined. joined ≡ joined_lines profile bytes.now) }
 {
-    let mut joining = Joining::new(alloc);
+    let mut joining = Joining {
+        lines: Vec::new(alloc),
+        pending: None,
+    };
     for line in Lines::new(bytes) {
-        let line = unindented_line(&line);
-        if !is_comment(&line) {
+        let line = line.with_text(unindented(line.text()));
+        if !begins_with(b'#', line.text()) {
             joining.take(alloc, profile, &piece_of(&line))?;
         }
     }

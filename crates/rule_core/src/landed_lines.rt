@@ -1,5 +1,5 @@
 //! The joined lines of a file that are read as rules one by one.
-ghost use Rattle.std.specs.Prelude.{◌≡◌, IfOk, drop, map, option_map, zip};
+ghost use Rattle.std.specs.Prelude.{◌≡◌, IfOk, drop, map, zip};
 ghost use Rattle.rule_core.specs.Rules.{reading_of};
 ghost use Rattle.text_bytes.specs.Texts.{first};
 
@@ -50,7 +50,13 @@ impl<'a> LandedLines<'a> {
     {
         match self.lines.first() {
             None => Ok(None),
-            Some(line) => landed(alloc, self.profile, line, self.landings.first()),
+            Some(line) => match self.landings.first() {
+                None => Ok(None),
+                Some(landing) => Ok(Some(LandedReading {
+                    reading: read_line(alloc, self.profile, line)?,
+                    landing: *landing,
+                })),
+            },
         }
     }
 
@@ -74,23 +80,5 @@ impl<'a> LandedLines<'a> {
             lines: &self.lines[self.lines.len().min(1)..],
             landings: &self.landings[self.landings.len().min(1)..],
         }
-    }
-}
-
-/// A line, read as a rule, with what becomes of its jump and of its label, if that is known.
-fn landed<'a>(
-    alloc: Global,
-    profile: Profile,
-    line: &'a JoinedLine<'_>,
-    landing: Option<&Landing>,
-) -> Result<Option<LandedReading<'a>>, AllocError>
-    ensures { IfOk result (λ landed. landed ≡ option_map (λ l. (reading_of profile line.now, l.now)) landing.entry) }
-{
-    match landing {
-        None => Ok(None),
-        Some(landing) => Ok(Some(LandedReading {
-            reading: read_line(alloc, profile, line)?,
-            landing: *landing,
-        })),
     }
 }

@@ -2,7 +2,7 @@
 ghost use Rattle.std.specs.Prelude.{◌≡◌, ◌==◌, ◌≤◌, ◌-◌, length};
 ghost use Rattle.std.specs.List.{after_first, prefix_len};
 ghost use Rattle.rule_tokens.specs.Grammar.{is_key_byte};
-ghost use Rattle.rule_core.specs.Letters.{after_braces, after_key, start_before_quote};
+ghost use Rattle.rule_core.specs.Letters.{after_braces, start_before_quote};
 
 use text_bytes::{begins_with, split_once};
 
@@ -21,20 +21,12 @@ pub(crate) fn letters_start(line: &[u8], text: &[u8], letters: &[u8]) -> usize
 fn after_braces(text: &[u8]) -> &[u8]
     ensures { result.now ≡ after_braces text.now }
 {
-    let rest = after_key(text);
+    let (_, rest) = text.split_at(key_length(text));
     if begins_with(b'{', rest) {
         after_byte(b'}', rest)
     } else {
         rest
     }
-}
-
-/// What follows the key that a text begins with.
-fn after_key(text: &[u8]) -> &[u8]
-    ensures { result.now ≡ after_key text.now }
-{
-    let (_, rest) = text.split_at(key_length(text));
-    rest
 }
 
 /// How many bytes of a key a text begins with.

@@ -32,7 +32,6 @@ mod readings;
 mod spot;
 mod style;
 mod sums;
-mod text;
 mod turns;
 
 pub use counts::{MAX_TOKENS, token_count};

@@ -1,8 +1,6 @@
 //! The ends of lines as udev reads them, and files of which it reads nothing.
 ghost use Rattle.std.specs.Prelude.{◌≡◌, ◌≤◌, IfOk, map};
-ghost use Rattle.text_bytes.specs.declared.profile.Profile.TheVariants.{Udev};
-ghost use Rattle.rule_core.specs.Ends.{abandoned, as_read, end_size, file_as_read, first_too_long, is_too_long, more_size, nul_size};
-ghost use Rattle.text_bytes.specs.Lines.{numbered_lines};
+ghost use Rattle.rule_core.specs.Ends.{abandoned, as_read, end_size, file_as_read, is_too_long, more_size, nul_size};
 
 use std::alloc::{AllocError, Global};
 use text_bytes::{Bytes, Lines, Profile, SourceFile, capped};
@@ -19,10 +17,11 @@ pub fn files_as_read(
 ) -> Result<Vec<SourceFile>, AllocError>
     ensures { IfOk result (λ read. read.items ≡ map (file_as_read profile) files.items) }
 {
-    match profile {
-        Profile::Manual => Ok(files),
-        Profile::Udev => files_by_udev(alloc, files),
+    let mut read = Vec::with_capacity(alloc, files.len())?;
+    for file in files {
+        read.push(file_as_read(alloc, profile, file)?)?;
     }
+    Ok(read)
 }
 
 /// A file as it is read by a profile: for udev with each end of a line as one newline.
@@ -35,38 +34,22 @@ pub fn file_as_read(
 {
     match profile {
         Profile::Manual => Ok(file),
-        Profile::Udev => file_by_udev(alloc, file),
+        Profile::Udev => {
+            let SourceFile {
+                kind,
+                rank,
+                name,
+                bytes,
+            } = file;
+            let bytes = Bytes::new(read_ends(alloc, bytes.as_slice())?);
+            Ok(SourceFile {
+                kind,
+                rank,
+                name,
+                bytes,
+            })
+        }
     }
-}
-
-/// Files as udev reads them.
-fn files_by_udev(alloc: Global, files: Vec<SourceFile>) -> Result<Vec<SourceFile>, AllocError>
-    ensures { IfOk result (λ read. read.items ≡ map (file_as_read Udev) files.items) }
-{
-    let mut read = Vec::with_capacity(alloc, files.len())?;
-    for file in files {
-        read.push(file_by_udev(alloc, file)?)?;
-    }
-    Ok(read)
-}
-
-/// A file as udev reads it.
-fn file_by_udev(alloc: Global, file: SourceFile) -> Result<SourceFile, AllocError>
-    ensures { IfOk result (λ read. read ≡ file_as_read Udev file) }
-{
-    let SourceFile {
-        kind,
-        rank,
-        name,
-        bytes,
-    } = file;
-    let bytes = Bytes::new(read_ends(alloc, bytes.as_slice())?);
-    Ok(SourceFile {
-        kind,
-        rank,
-        name,
-        bytes,
-    })
 }
 
 /// The bytes of a file with each end of a line written as one newline, as udev reads it.
@@ -135,7 +118,14 @@ pub fn abandoned_at(profile: Profile, bytes: &[u8]) -> Option<u32>
 {
     match profile {
         Profile::Manual => None,
-        Profile::Udev => first_too_long(bytes),
+        Profile::Udev => {
+            for line in Lines::new(bytes) {
+                if is_too_long(line.text()) {
+                    return Some(capped(line.number()));
+                }
+            }
+            None
+        }
     }
 }
 
@@ -144,16 +134,4 @@ pub fn is_too_long(text: &[u8]) -> bool
     ensures { result ≡ is_too_long text.now }
 {
     text.len() > MAX_UDEV_BYTES
-}
-
-/// The number of the first line of a file that is too long.
-fn first_too_long(bytes: &[u8]) -> Option<u32>
-    ensures { result ≡ first_too_long (numbered_lines bytes.now) }
-{
-    for line in Lines::new(bytes) {
-        if is_too_long(line.text()) {
-            return Some(capped(line.number()));
-        }
-    }
-    None
 }

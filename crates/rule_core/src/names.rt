@@ -2,9 +2,8 @@
 //!
 //! Of several labels of a rule the first counts, and for udev the last; of several jumps the first. The others are
 //! reported, and the rule stays.
-ghost use Rattle.std.specs.Prelude.{◌≡◌, ◌++◌, [], Some, IfOk, OnOk};
-ghost use Rattle.text_bytes.specs.declared.profile.Profile.TheVariants.{Manual};
-ghost use Rattle.rule_core.specs.Drafts.{given_twice, lost_name, name_place};
+ghost use Rattle.std.specs.Prelude.{◌≡◌, ◌++◌, if◌then◌else◌, None, IfOk, OnOk};
+ghost use Rattle.rule_core.specs.Drafts.{given_twice, name_place};
 ghost use Rattle.rule_core.specs.Rules.{name_of};
 ghost use Rattle.rule_core.specs.Taking.{again, first_given, label_given, label_said, names_given, with_name};
 
@@ -55,22 +54,15 @@ impl RuleNames {
     ) -> Result<RuleNames, AllocError>
         ensures { IfOk result (λ names. names ≡ names_given profile parts.now) }
     {
-        let mut names = RuleNames::new(alloc);
+        let mut names = RuleNames {
+            label: None,
+            goto: None,
+            findings: Vec::new(alloc),
+        };
         for written in parts {
             names.take(alloc, profile, written)?;
         }
         Ok(names)
-    }
-
-    /// No name so far.
-    fn new(alloc: Global) -> RuleNames
-        ensures { result ≡ names_given Manual [] }
-    {
-        RuleNames {
-            label: None,
-            goto: None,
-            findings: Vec::new(alloc),
-        }
     }
 
     /// Takes one more token.
@@ -121,23 +113,13 @@ fn give_label(
 {
     match profile {
         Profile::Manual => give(given, findings, name),
-        Profile::Udev => give_last(given, findings, name),
+        Profile::Udev => {
+            if let Some(lost) = given.replace(name) {
+                findings.push(given_twice(lost))?;
+            }
+            Ok(())
+        }
     }
-}
-
-/// Sets a name, and reports the one that was given before, if there was one.
-fn give_last(
-    given: &mut Option<NamePlace>,
-    findings: &mut Vec<Spot<MessageKind>>,
-    name: NamePlace,
-) -> Result<(), AllocError>
-    ensures given { OnOk result (given.new ≡ Some name) }
-    ensures findings { OnOk result (findings.new.items ≡ findings.old.items ++ lost_name given.old) }
-{
-    if let Some(lost) = given.replace(name) {
-        findings.push(given_twice(lost))?;
-    }
-    Ok(())
 }
 
 /// Sets a name, or reports it if one was given before.
@@ -169,10 +151,13 @@ fn given_twice(name: NamePlace) -> Spot<MessageKind>
     }
 }
 
-/// A name, if there is one, without its place.
-pub(crate) fn name_of(given: Option<NamePlace>) -> Option<Bytes>
-    ensures { result ≡ name_of given }
+/// A name without its place, if there is one and it is not lost.
+pub(crate) fn name_unless(lost: bool, given: Option<NamePlace>) -> Option<Bytes>
+    ensures { result ≡ (if lost then None else name_of given) }
 {
+    if lost {
+        return None;
+    }
     match given {
         None => None,
         Some(NamePlace { name, .. }) => Some(name),

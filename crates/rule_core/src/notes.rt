@@ -2,25 +2,25 @@
 //! there is anything to say about it.
 //!
 //! A line takes some bytes here, whatever its rule has. One about which there is something to say is read again.
-ghost use Rattle.std.specs.Prelude.{◌≡◌, ◌++◌, if◌then◌else◌, ◌∷◌, [], Bool, true, List, Ok, map, flat_map, option_map, sum_by, IfOk, OnOk};
+ghost use Rattle.std.specs.Prelude.{◌≡◌, ◌∷◌, Bool, true, List, map, flat_map, sum_by, IfOk, OnOk};
 ghost use Rattle.std.specs.List.{count_by};
 ghost use Rattle.rule_types.specs.Jumps.{landings};
 ghost use Rattle.rule_core.specs.Counts.{line_tokens, token_count};
 ghost use Rattle.rule_core.specs.Drafts.{draft_of};
-ghost use Rattle.rule_core.specs.Notes.{AreSilent, has_names, is_silent, no_outline, nowhere, some_names, spread, with_outline};
-ghost use Rattle.rule_core.specs.Rules.{landed, name_of, names_of, reading_of};
+ghost use Rattle.rule_core.specs.Notes.{AreSilent, has_names, is_silent, nowhere, some_names, spread, with_outline};
+ghost use Rattle.rule_core.specs.Rules.{landed, names_of, reading_of};
 
 use crate::counts::draft_tokens;
 use crate::draft::Draft;
 use crate::joined::JoinedLine;
-use crate::names::{NamePlace, name_of};
-use crate::readings::read_line;
+use crate::names::NamePlace;
+use crate::readings::{borrowed, read_line};
 use crate::sums::sum_of;
 use file_messages::MessageKind;
 use rule_types::{Jump, Landing, Spot, landings};
 use std::alloc::{AllocError, Global};
 use std::marker::Model;
-use text_bytes::{Bytes, Profile};
+use text_bytes::Profile;
 
 /// What becomes of a line's jump and label if it has none.
 pub(crate) const NOWHERE: Landing = Landing {
@@ -42,16 +42,17 @@ pub struct LineNotes {
 /// The names for jumps of a rule that has some.
 #[derive(Drop)]
 struct GivenNames {
-    label: Option<Bytes>,
-    goto: Option<Bytes>,
+    label: Option<NamePlace>,
+    goto: Option<NamePlace>,
 }
 
 impl Model for GivenNames {
     ghost use Rattle.rule_types.specs.Jumps.{Names};
+    ghost use Rattle.rule_core.specs.Rules.{name_of};
 
     ghost Value = { Names };
 
-    ghost view = { λ n. record { label = n.label; goto = n.goto } };
+    ghost view = { λ n. record { label = name_of n.label; goto = name_of n.goto } };
 }
 
 /// What is kept of lines before it is known where their jumps lead.
@@ -76,24 +77,30 @@ impl Model for Outlines {
 }
 
 impl Outlines {
-    /// No line so far.
-    fn new(alloc: Global) -> Outlines
-        ensures { result ≡ no_outline }
-    {
-        Outlines {
-            names: Vec::new(alloc),
-            named: Vec::new(alloc),
-            silent: Vec::new(alloc),
-            tokens: 0,
-        }
-    }
-
     /// Takes one more line, which was read.
     fn take(&mut self, read: Result<Draft<'_>, Spot<MessageKind>>) -> Result<(), AllocError>
         ensures { OnOk result (self.new ≡ with_outline self.old read.entry) }
     {
         match read {
-            Ok(draft) => self.take_draft(draft),
+            Ok(draft) => {
+                let tokens = draft_tokens(&draft, NOWHERE)?;
+                let Draft {
+                    label,
+                    goto,
+                    parts,
+                    findings,
+                } = draft;
+                drop(parts);
+                let named = label.is_some() || goto.is_some();
+                self.named.push(named)?;
+                self.silent.push(!named && findings.is_empty())?;
+                drop(findings);
+                self.tokens = sum_of(self.tokens, tokens)?;
+                if named {
+                    self.names.push(GivenNames { label, goto })?;
+                }
+                Ok(())
+            }
             Err(wrong) => {
                 drop(wrong);
                 self.named.push(false)?;
@@ -101,47 +108,6 @@ impl Outlines {
                 Ok(())
             }
         }
-    }
-
-    /// Takes one more line, which is a rule.
-    fn take_draft(&mut self, draft: Draft<'_>) -> Result<(), AllocError>
-        ensures { OnOk result (self.new ≡ with_outline self.old (Ok draft.entry)) }
-    {
-        let tokens = draft_tokens(&draft, NOWHERE)?;
-        let Draft {
-            label,
-            goto,
-            parts,
-            findings,
-        } = draft;
-        drop(parts);
-        let named = label.is_some() || goto.is_some();
-        self.named.push(named)?;
-        self.silent.push(!named && findings.is_empty())?;
-        drop(findings);
-        self.tokens = sum_of(self.tokens, tokens)?;
-        self.take_names(named, label, goto)
-    }
-
-    /// Takes the names of a line if it has some.
-    fn take_names(
-        &mut self,
-        named: bool,
-        label: Option<NamePlace>,
-        goto: Option<NamePlace>,
-    ) -> Result<(), AllocError>
-        ensures { OnOk result (self.new ≡ record self.old {
-          names = self.old.names
-              ++ (if named then record { label = name_of label; goto = name_of goto } ∷ [] else []);
-        }) }
-    {
-        if named {
-            self.names.push(GivenNames {
-                label: name_of(label),
-                goto: name_of(goto),
-            })?;
-        }
-        Ok(())
     }
 }
 
@@ -181,7 +147,12 @@ fn read_outlines(
     ensures silent { IfOk result (λ o. o.silent ≡ map (λ l. is_silent (draft_of profile l.text)) lines.now) }
     ensures tokens { IfOk result (λ o. o.tokens ≡ sum_by (λ l. line_tokens (draft_of profile l.text) nowhere) lines.now) }
 {
-    let mut outlines = Outlines::new(alloc);
+    let mut outlines = Outlines {
+        names: Vec::new(alloc),
+        named: Vec::new(alloc),
+        silent: Vec::new(alloc),
+        tokens: 0,
+    };
     for line in lines {
         let reading = read_line(alloc, profile, line)?;
         outlines.take(reading.read)?;
@@ -195,19 +166,9 @@ fn landings_of(alloc: Global, names: &[GivenNames]) -> Result<Vec<Landing>, Allo
 {
     let mut jumps = Vec::with_capacity(alloc, names.len())?;
     for given in names {
-        jumps.push(Jump::new(held(&given.label), held(&given.goto)))?;
+        jumps.push(Jump::new(borrowed(&given.label), borrowed(&given.goto)))?;
     }
     landings(alloc, &jumps)
-}
-
-/// Returns a name, if there is one.
-fn held(name: &Option<Bytes>) -> Option<&[u8]>
-    ensures { option_map (λ t. t.now) result ≡ name.now }
-{
-    match name {
-        None => None,
-        Some(name) => Some(name.as_slice()),
-    }
 }
 
 /// What becomes of the jumps of lines, of which each is told whether it has names, given those of the lines that have
@@ -218,22 +179,15 @@ fn spread(alloc: Global, named: &[bool], given: &[Landing]) -> Result<Vec<Landin
     let mut landings = Vec::with_capacity(alloc, named.len())?;
     let mut rest = given;
     for has_names in named {
-        let (landing, left) = next_landing(*has_names, rest);
+        let (landing, left) = if *has_names {
+            first_landing(rest)
+        } else {
+            (NOWHERE, rest)
+        };
         landings.push(landing)?;
         rest = left;
     }
     Ok(landings)
-}
-
-/// What becomes of the jump of a line, and those left for the lines after it.
-fn next_landing(has_names: bool, given: &[Landing]) -> (Landing, &[Landing])
-    ensures { (named : List Bool) → spread (has_names ∷ named) given.now ≡ result.0 ∷ spread named result.1.now }
-{
-    if has_names {
-        first_landing(given)
-    } else {
-        (NOWHERE, given)
-    }
 }
 
 /// The first of what there is, and the others.

@@ -1,9 +1,9 @@
 //! The lines of a file that are kept, and what each gives to a joined line.
 ghost use Rattle.std.specs.Prelude.{◌≡◌};
-ghost use Rattle.rule_core.specs.Lines.{is_comment, piece_of, unindented};
+ghost use Rattle.rule_core.specs.Lines.{piece_of};
 
 use std::marker::Model;
-use text_bytes::{Line, begins_with, ends_in, unindented};
+use text_bytes::{Line, ends_in};
 
 /// What a kept line gives to a joined line.
 #[derive(Drop)]
@@ -22,20 +22,6 @@ impl<'a> Model for Piece<'a> {
     ghost Value = { Piece };
 
     ghost view = { λ p. record { number = p.number; text = p.text.now; continues = p.continues } };
-}
-
-/// A line without the blanks at its start.
-pub(crate) fn unindented_line<'a>(line: &Line<'a>) -> Line<'a>
-    ensures { result ≡ unindented line.now }
-{
-    line.with_text(unindented(line.text()))
-}
-
-/// Whether a line begins with `#`.
-pub(crate) fn is_comment(line: &Line<'_>) -> bool
-    ensures { result ≡ is_comment line.now }
-{
-    begins_with(b'#', line.text())
 }
 
 /// What a line gives to a joined line.

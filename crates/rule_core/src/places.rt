@@ -9,7 +9,7 @@ use rule_tokens::Tokens;
 use text_bytes::Profile;
 
 /// The place in a line where its tokens begin, in bytes from its start: udev skips commas and blanks in front.
-pub fn first_place(profile: Profile, line: &[u8]) -> usize
+fn first_place(profile: Profile, line: &[u8]) -> usize
     ensures value { result ≡ first_place profile line.now }
     ensures within { result ≤ length line.now }
 {

@@ -1,27 +1,27 @@
 //! Reading rules files.
-ghost use Rattle.std.specs.Prelude.{◌≡◌, ◌∷◌, ◌++◌, ◌<◌, ◌≤◌, ◌^◌, [], if◌then◌else◌, None, IfOk, IfErr, OnOk, flat_map, map};
+ghost use Rattle.std.specs.Prelude.{◌≡◌, ◌∷◌, ◌++◌, ◌<◌, ◌≤◌, ◌^◌, [], None, IfOk, IfErr, OnOk, flat_map, map};
 ghost use Rattle.rule_core.specs.Gathering.{Adds};
 ghost use Rattle.rule_types.specs.Rules.{tokens_in};
 ghost use Rattle.rule_core.specs.Rules.{file_messages, file_rules, findings_of, line_messages, line_rules, message_at, messages_unless};
-ghost use Rattle.rule_core.specs.Rules.{name_of, rule_at, rules_unless, set_of, set_of_as};
-ghost use Rattle.rule_core.specs.Taking.{rule_with, sorted_kinds};
-ghost use Rattle.rule_types.specs.Tokens.{parts_in};
+ghost use Rattle.rule_core.specs.Rules.{rule_at, rules_unless, set_of, set_of_as};
 ghost use Rattle.rule_core.specs.declared.fault.RulesFault.TheVariants.{TooMany};
 
 use crate::draft::Draft;
 use crate::fault::RulesFault;
+use crate::findings::findings_of;
 use crate::gathered::Gathered;
 use crate::joining::joined_lines;
-use crate::kinds::Kinds;
+use crate::kinds::rule_of;
 use crate::line_ends::abandoned_at;
-use crate::messages::{Place, report, report_abandoned, report_all, report_if, report_open};
-use crate::names::name_of;
+use crate::messages::{Place, report, report_all, report_open};
+use crate::names::name_unless;
 use crate::read_set::ReadRules;
 use crate::readings::{LandedReading, Reading, read_lines};
+use crate::spot::whole_spot;
 use file_messages::{Message, MessageKind};
-use rule_types::{Landing, Rule, RuleSet, WrittenPart};
-use std::alloc::{AllocError, Global};
-use text_bytes::{Bytes, Profile, SourceFile};
+use rule_types::{Landing, RuleSet};
+use std::alloc::Global;
+use text_bytes::{Profile, SourceFile};
 
 /// Reads rules files as udev(7) writes them, in the order in which they are given.
 ///
@@ -86,7 +86,12 @@ fn read_file(
     match abandoned_at(profile, file.bytes.as_slice()) {
         None => read_kept(alloc, profile, rules, messages, file),
         Some(line) => {
-            report_abandoned(alloc, messages, file.name.as_slice(), line)?;
+            let place = Place {
+                file: file.name.as_slice(),
+                line,
+            };
+            let found = whole_spot(alloc, MessageKind::FileAbandoned, &[]);
+            report(alloc, messages, place, found)?;
             Ok(())
         }
     }
@@ -177,51 +182,15 @@ fn add_draft(
         parts,
         findings,
     } = draft;
-    let lost = MessageKind::NoLaterLabel;
-    let unused = MessageKind::LabelUnused;
-    report_if(alloc, messages, place, landing.lost, lost, &goto)?;
-    report_all(alloc, messages, place, findings)?;
-    report_if(alloc, messages, place, landing.unused, unused, &label)?;
-    let kept = kept_jump(name_of(goto), landing.lost);
-    rules.add(rule_of(alloc, profile, place, name_of(label), kept, parts)?)
-}
-
-/// The rule of these names and these parts.
-#[tactic(auto, using(crate::proofs::Drafting::rule_made))]
-fn rule_of(
-    alloc: Global,
-    profile: Profile,
-    place: Place<'_>,
-    label: Option<Bytes>,
-    goto: Option<Bytes>,
-    parts: Vec<WrittenPart<'_>>,
-) -> Result<Rule, AllocError>
-    ensures { IfOk result (λ r. r ≡ rule_with place.entry.file.now place.entry.line label goto (sorted_kinds profile (parts_in parts.entry.items))) }
-{
-    let file = Bytes::copy_of(alloc, place.file)?;
-    let Kinds {
-        plain,
-        up,
-        acts,
-        results,
-        sets,
-    } = Kinds::sorted(alloc, profile, parts)?;
-    Ok(Rule {
-        file,
-        line: place.line,
-        label,
-        goto,
-        plain,
-        up,
-        acts,
-        results,
-        sets,
-    })
-}
-
-/// A rule's jump, which is dropped if it is lost.
-fn kept_jump(goto: Option<Bytes>, lost: bool) -> Option<Bytes>
-    ensures { result ≡ (if lost then None else goto) }
-{
-    if lost { None } else { goto }
+    let found = findings_of(alloc, &label, &goto, findings, landing)?;
+    report_all(alloc, messages, place, found)?;
+    let kept = name_unless(landing.lost, goto);
+    rules.add(rule_of(
+        alloc,
+        profile,
+        place,
+        name_unless(false, label),
+        kept,
+        parts,
+    )?)
 }

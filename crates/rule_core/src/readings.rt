@@ -82,7 +82,8 @@ fn land(landed: &mut Vec<LandedReading<'_>>, landings: &[Landing])
     }
 }
 
-/// Reads joined lines as rules, whatever becomes of their jumps and labels.
+/// Reads joined lines as rules, whatever becomes of their jumps and labels. Room that the parts of a rule do not need
+/// is given back.
 fn readings_of<'a>(
     alloc: Global,
     profile: Profile,
@@ -93,22 +94,15 @@ fn readings_of<'a>(
     let mut landed = Vec::with_capacity(alloc, lines.len())?;
     for line in lines {
         let mut reading = read_line(alloc, profile, line)?;
-        shrink(&mut reading.read);
+        if let Ok(draft) = &mut reading.read {
+            draft.parts.shrink_to(0);
+        }
         landed.push(LandedReading {
             reading,
             landing: NOWHERE,
         })?;
     }
     Ok(landed)
-}
-
-/// Gives room back that the parts of a rule do not need.
-fn shrink(read: &mut Result<Draft<'_>, Spot<MessageKind>>)
-    ensures { read.new ≡ read.old }
-{
-    if let Ok(draft) = read {
-        draft.parts.shrink_to(0);
-    }
 }
 
 /// Reads a joined line as a rule.
@@ -132,25 +126,22 @@ pub fn read_line<'a>(
     })
 }
 
-/// What becomes of the jumps of lines.
+/// What becomes of the jumps of lines; one that is not a rule has no names for jumps.
 fn landings_of(alloc: Global, readings: &[LandedReading<'_>]) -> Result<Vec<Landing>, AllocError>
     ensures { IfOk result (λ found. found.items ≡ landings (map (λ x. names_of x.0.read) readings.now)) }
 {
     let mut jumps = Vec::with_capacity(alloc, readings.len())?;
     for line in readings {
-        jumps.push(jump_of(&line.reading.read))?;
+        match &line.reading.read {
+            Ok(draft) => {
+                jumps.push(Jump::new(borrowed(&draft.label), borrowed(&draft.goto)))?;
+            }
+            Err(_) => {
+                jumps.push(Jump::new(None, None))?;
+            }
+        }
     }
     landings(alloc, &jumps)
-}
-
-/// The names for jumps of a line; one that is not a rule has none.
-fn jump_of<'r>(read: &'r Result<Draft<'_>, Spot<MessageKind>>) -> Jump<'r>
-    ensures { result ≡ names_of read.now }
-{
-    match read {
-        Ok(draft) => Jump::new(borrowed(&draft.label), borrowed(&draft.goto)),
-        Err(_) => Jump::new(None, None),
-    }
 }
 
 /// Returns a name, if there is one.

@@ -1,6 +1,5 @@
 //! What is found about parts of a joined line.
-ghost use Rattle.std.specs.Prelude.{◌≡◌, IfOk, length, drop};
-ghost use Rattle.rule_tokens.specs.Grammar.{attribute_bytes};
+ghost use Rattle.std.specs.Prelude.{◌≡◌, IfOk};
 ghost use Rattle.rule_core.specs.Spots.{attribute_spot, key_spot, part_spot, token_spot, whole_spot};
 
 use crate::letters::letters_start;
@@ -33,7 +32,10 @@ pub fn attribute_spot(
 ) -> Result<Spot<MessageKind>, AllocError>
     ensures { IfOk result (λ found. found ≡ attribute_spot kind token.now) }
 {
-    let attribute = attribute_bytes(token);
+    let attribute: &[u8] = match token.attribute() {
+        None => &[],
+        Some(attribute) => attribute,
+    };
     let brace = sum_of(token.span().start, token.key().len())?;
     Ok(Spot {
         kind,
@@ -41,16 +43,6 @@ pub fn attribute_spot(
         start: sum_of(brace, 1)?,
         size: attribute.len(),
     })
-}
-
-/// The bytes of a token's attribute, none if it has no attribute.
-fn attribute_bytes<'a>(token: &Token<'a>) -> &'a [u8]
-    ensures { result.now ≡ attribute_bytes token.now.parts.head.attribute }
-{
-    match token.attribute() {
-        None => &[],
-        Some(attribute) => attribute,
-    }
 }
 
 /// The finding about a token that is not a part of a rule: about its key, its attribute, or its value with

@@ -3,8 +3,8 @@
 //! Each part has a number, its turn, so that a stable sort by turns gives the order.
 ghost use Rattle.std.specs.Prelude.{◌≡◌, ◌≤◌, OnOk};
 ghost use Rattle.text_bytes.specs.declared.profile.Profile.TheVariants.{Manual, Udev};
-ghost use Rattle.rule_core.specs.Turns.{acts_by_turn, assignments_by_turn, is_rendered_late, turn_of_act, turn_of_act_kind};
-ghost use Rattle.rule_core.specs.Turns.{turn_of_assignment, turn_of_change, turn_of_import, turn_of_option, turn_of_run, turn_of_target, turn_of_text};
+ghost use Rattle.rule_core.specs.Turns.{acts_by_turn, assignments_by_turn, is_rendered_late, turn_of_act};
+ghost use Rattle.rule_core.specs.Turns.{turn_of_assignment, turn_of_target};
 
 use rule_tokens::is_substituted;
 use rule_types::{Act, ActKind, Assignment, Change, Import, RuleOption, RunType, Target, mode_of};
@@ -48,57 +48,29 @@ fn sort_by_udev(assignments: &mut Vec<Assignment>) -> Result<(), AllocError>
     Ok(())
 }
 
-/// The turn of an act.
+/// The turn of an act: TEST, then PROGRAM, then IMPORT by its type.
 fn turn_of_act(act: &Act) -> u8
     ensures { result ≡ turn_of_act act.now }
 {
-    turn_of_act_kind(&act.kind)
-}
-
-/// The turn of what an act does: TEST, then PROGRAM, then IMPORT by its type.
-fn turn_of_act_kind(act_kind: &ActKind) -> u8
-    ensures { result ≡ turn_of_act_kind act_kind.now }
-{
-    match act_kind {
+    match &act.kind {
         ActKind::Test(_, _) => 0,
         ActKind::Program(_) => 1,
-        ActKind::Import(import) => turn_of_import(import),
+        ActKind::Import(import) => match import {
+            Import::File(_) => 2,
+            Import::Program(_) => 3,
+            Import::Builtin(_) => 4,
+            Import::Db(_) => 5,
+            Import::Cmdline(_) => 6,
+            Import::Parent(_, _) => 7,
+        },
     }
 }
 
-/// The turn of an IMPORT, by its type.
-fn turn_of_import(import: &Import) -> u8
-    ensures { result ≡ turn_of_import import.now }
-{
-    match import {
-        Import::File(_) => 2,
-        Import::Program(_) => 3,
-        Import::Builtin(_) => 4,
-        Import::Db(_) => 5,
-        Import::Cmdline(_) => 6,
-        Import::Parent(_, _) => 7,
-    }
-}
-
-/// The turn of an assignment by the manual.
+/// The turn of an assignment by the manual: OPTIONS, then the texts by their keys, then RUN.
 fn turn_of_assignment(assignment: &Assignment) -> u8
     ensures { result ≡ turn_of_assignment Manual assignment.now }
 {
-    turn_of_change(&assignment.change)
-}
-
-/// The turn of an assignment for udev.
-fn udev_turn_of_assignment(assignment: &Assignment) -> u8
-    ensures { result ≡ turn_of_assignment Udev assignment.now }
-{
-    udev_turn_of_change(&assignment.change)
-}
-
-/// The turn of what an assignment changes: OPTIONS, then the texts by their keys, then RUN.
-fn turn_of_change(change: &Change) -> u8
-    ensures { result ≡ turn_of_change Manual change.now }
-{
-    match change {
+    match &assignment.change {
         Change::Option(_) => 0,
         Change::Text(target, _) => turn_of_target(target),
         Change::Run(_, _) => 11,
@@ -106,28 +78,31 @@ fn turn_of_change(change: &Change) -> u8
 }
 
 /// The same for udev: OPTIONS one by one, then the texts by their keys and by when they are known, then RUN by its
-/// type.
-fn udev_turn_of_change(change: &Change) -> u8
-    ensures { result ≡ turn_of_change Udev change.now }
+/// type, builtins before programs. OWNER, GROUP and MODE that are known when the rule is read come right after those
+/// that are rendered for each event.
+fn udev_turn_of_assignment(assignment: &Assignment) -> u8
+    ensures { result ≡ turn_of_assignment Udev assignment.now }
 {
-    match change {
-        Change::Option(known) => turn_of_option(*known),
-        Change::Text(target, template) => 5 + turn_of_text(target, template.written()),
-        Change::Run(run_type, _) => 19 + turn_of_run(*run_type),
-    }
-}
-
-/// The turn of an assignment of a text for udev, among these: OWNER, GROUP and MODE that are known when the rule is
-/// read come right after those that are rendered for each event.
-fn turn_of_text(target: &Target, text: &[u8]) -> u8
-    ensures value { result ≡ turn_of_text target.now text.now }
-    ensures small { result ≤ 13 }
-{
-    let turn = turn_of_target(target);
-    if is_rendered_late(target, text) {
-        turn
-    } else {
-        3 + turn
+    match &assignment.change {
+        Change::Option(known) => match known {
+            RuleOption::KeepEscapes => 0,
+            RuleOption::ReplaceEscapes => 1,
+            RuleOption::DbPersist => 2,
+            RuleOption::Watch => 3,
+            RuleOption::NoWatch => 3,
+            RuleOption::LinkPriority(_) => 4,
+            RuleOption::LogLevel | RuleOption::Ignored => 5,
+        },
+        Change::Text(target, template) => {
+            let turn = turn_of_target(target);
+            if is_rendered_late(target, template.written()) {
+                5 + turn
+            } else {
+                8 + turn
+            }
+        }
+        Change::Run(Some(RunType::Builtin), _) => 19,
+        Change::Run(_, _) => 20,
     }
 }
 
@@ -139,32 +114,6 @@ fn is_rendered_late(target: &Target, text: &[u8]) -> bool
         Target::Owner | Target::Group => is_substituted(text),
         Target::Mode => mode_of(text).is_none(),
         _ => false,
-    }
-}
-
-/// The turn of an option for udev, among the options.
-fn turn_of_option(known: RuleOption) -> u8
-    ensures { result ≡ turn_of_option known }
-{
-    match known {
-        RuleOption::KeepEscapes => 0,
-        RuleOption::ReplaceEscapes => 1,
-        RuleOption::DbPersist => 2,
-        RuleOption::Watch => 3,
-        RuleOption::NoWatch => 3,
-        RuleOption::LinkPriority(_) => 4,
-        RuleOption::LogLevel | RuleOption::Ignored => 5,
-    }
-}
-
-/// The turn of RUN for udev, among its types: builtins, then programs.
-fn turn_of_run(run_type: Option<RunType>) -> u8
-    ensures value { result ≡ turn_of_run run_type }
-    ensures small { result ≤ 1 }
-{
-    match run_type {
-        Some(RunType::Builtin) => 0,
-        _ => 1,
     }
 }
 

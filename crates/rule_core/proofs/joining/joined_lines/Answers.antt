@@ -5,13 +5,13 @@ use Rattle.rule_core.proofs.joining.joined_lines.Goals as goal
 
 pub loop-line-init : goal.loop-line-init
 loop-line-init c =
-    at_start c.args.profile c.new-joining.result c.into_iter-line-iterator.result c.args.bytes.now c.new-joining.ensures
+    at_start c.args.profile _ c.into_iter-line-iterator.result c.args.bytes.now (cc)
     (c.into_iter-line-iterator.ensures.into_iter_gives ∙ c.new-line-items.ensures)
 
 pub loop-line-preserved-in-Continue-1 : goal.loop-line-preserved-in-Continue-1
 loop-line-preserved-in-Continue-1 c =
-    at_line c.args.profile (length (lines c.args.bytes.now)) c.loop-line.joining c.take.new.self c.in-Some.line c.unindented_line-line.result c.piece_of.result c.loop-line.line-iterator c.next.new.self (joined_lines c.args.profile c.args.bytes.now)
-    c.loop-line.invariant c.in-Some.ensures.steps c.unindented_line-line.ensures (cc) c.piece_of.ensures c.in_ok-take.ensures
+    at_line c.args.profile (length (lines c.args.bytes.now)) c.loop-line.joining c.take.new.self c.in-Some.line c.with_text-line.result c.piece_of.result c.loop-line.line-iterator c.next.new.self (joined_lines c.args.profile c.args.bytes.now)
+    c.loop-line.invariant c.in-Some.ensures.steps (cc) (cc) c.piece_of.ensures c.in_ok-take.ensures
 
 pub returns : goal.returns
 returns c =

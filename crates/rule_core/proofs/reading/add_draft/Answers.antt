@@ -9,9 +9,9 @@ use Rattle.rule_core.proofs.reading.add_draft.Goals as goal
 pub returns-clause-rules : goal.returns-clause-rules
 returns-clause-rules c =
     subst (λ (r : Rule). Adds c.args.rules.now c.add.new.self (r ∷ []) c.add.result)
-    (rule_is c.args.profile c.args.place.file.now c.args.place.line c.args.draft c.args.landing c.name_of-2.result c.kept_jump-kept.result c.draft.inside.parts.items c.in_ok-rule_of.field-0
+    (rule_is c.args.profile c.args.place.file.now c.args.place.line c.args.draft c.args.landing c.name_unless.result c.name_unless-kept.result c.draft.inside.parts.items c.in_ok-rule_of.field-0
     c.in_ok-rule_of.ensures
-    (c.name_of-2.ensures ∙ ap (λ (d : Draft). name_of d.label) c.draft.view_is)
-    (kept_is c.kept_jump-kept.result c.name_of.result c.draft.inside.goto c.args.draft c.args.landing c.kept_jump-kept.ensures c.name_of.ensures (ap (λ (d : Draft). d.goto) c.draft.view_is))
+    (c.name_unless.ensures ∙ ap (λ (d : Draft). name_of d.label) c.draft.view_is)
+    (kept_is c.name_unless-kept.result c.draft.inside.goto c.args.draft c.args.landing c.name_unless-kept.ensures (ap (λ (d : Draft). d.goto) c.draft.view_is))
     (ap (λ (d : Draft). d.parts) c.draft.view_is))
     c.add.ensures

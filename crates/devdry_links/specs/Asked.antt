@@ -19,25 +19,19 @@ abbrev pub is_verify : Verb → Bool
 is_verify Verify = true
 is_verify _ = false
 
--- whether a subcommand checks files
-abbrev pub checks : Verb → Bool
-checks Update = true
-checks Verify = true
-checks _ = false
-
 -- whether what no editor shows is told: rules are checked as udev reads them, or with lints
 abbrev pub asks_unseen : Line → Bool
 asks_unseen line = is_verify line.verb && (is_as_udev line.profile || line.lint)
 
--- whether a line asks for more than messages about files of its kind: `verify` for every check, and `update` for lints
-abbrev pub asks_more : Verb → (strict lint : Bool) → Bool
-asks_more Verify strict lint = strict
-asks_more Update strict lint = lint
-asks_more _ strict lint = false
+-- whether a line asks for more than messages about files of its kind: `verify` for every check, `update` for lints, and both for people
+abbrev pub asks_more : Verb → (strict lint people : Bool) → Bool
+asks_more Verify strict lint people = strict || people
+asks_more Update strict lint people = lint || people
+asks_more _ strict lint people = false
 
--- whether files of another kind are told: the line asks for more, or files are checked for people
+-- whether files of another kind are told
 abbrev pub asks_kinds : Line → Bool
-asks_kinds line = asks_more line.verb line.strict line.lint || (checks line.verb && is_for_people line.format)
+asks_kinds line = asks_more line.verb line.strict line.lint (is_for_people line.format)
 
 -- whether a line asks if a file that it names is a folder: messages are for people
 abbrev pub asks_folder : Line → (path : Text) → Bool

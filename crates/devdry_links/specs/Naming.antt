@@ -5,9 +5,9 @@ use Rattle.text_bytes.specs.Text.{Text}
 use Rattle.text_bytes.specs.Names.{slash}
 use Rattle.text_bytes.specs.Texts.{begins_with, following}
 use Rattle.text_bytes.specs.declared.profile.Profile.TheVariants.{Udev}
-use Rattle.text_bytes.specs.declared.source_file.FileKind.{FileKind}
-use Rattle.text_bytes.specs.declared.source_file.FileKind.TheVariants.{Hwdb, Rules}
+use Rattle.text_bytes.specs.declared.source_file.FileKind.TheVariants.{Rules}
 use Rattle.text_bytes.specs.declared.source_file.SourceFile.{SourceFile}
+use Rattle.engine_sessions.specs.Kinds.{same_kind}
 use Rattle.rule_core.specs.Ends.{file_as_read}
 use Rattle.rule_core.specs.Rules.{set_of_as}
 use Rattle.rule_tokens.specs.declared.piece.Piece.{Piece}
@@ -15,17 +15,12 @@ use Rattle.rule_tokens.specs.declared.piece.Piece.TheVariants.{Plain}
 use Rattle.rule_types.specs.declared.part.Act.{Act}
 use Rattle.rule_types.specs.declared.part.ActKind.{ActKind}
 use Rattle.rule_types.specs.declared.part.ActKind.TheVariants as act_kind
-use Rattle.rule_types.specs.declared.part.Import.{Import}
 use Rattle.rule_types.specs.declared.part.Import.TheVariants as import
 use Rattle.rule_types.specs.Rules.{Rule, tokens_in}
 
--- a text, if it begins with a slash
-abbrev pub whole_path : Text → Option Text
-whole_path text = if begins_with slash text then Some text else None
-
--- the path that a piece is, if it is not a substitution
+-- the path that a piece is, if it begins with a slash and is not a substitution
 abbrev pub path_of_piece : Piece → Option Text
-path_of_piece (Plain text) = whole_path text
+path_of_piece (Plain text) = if begins_with slash text then Some text else None
 path_of_piece piece = None
 
 -- the path that pieces are, if they are one text without substitutions
@@ -33,14 +28,9 @@ abbrev pub path_of_pieces : List Piece → Option Text
 path_of_pieces (piece ∷ []) = path_of_piece piece
 path_of_pieces pieces = None
 
--- the path of an IMPORT{file}, if it is written in full
-abbrev pub path_of_import : Import → Option Text
-path_of_import (import.File template) = path_of_pieces template.pieces
-path_of_import from = None
-
 -- the path of the file that an act imports, if it is written in full
 abbrev pub path_of_kind : ActKind → Option Text
-path_of_kind (act_kind.Import from) = path_of_import from
+path_of_kind (act_kind.Import (import.File template)) = path_of_pieces template.pieces
 path_of_kind kind = None
 
 -- the paths that rules name in full, in their order
@@ -56,15 +46,10 @@ abbrev pub mentions : Text → Bool
 mentions [] = false
 mentions (b ∷ text) = if is_some (following (codes "IMPORT{file}") (b ∷ text)) then true else mentions text
 
--- whether a file is one of rules
-abbrev pub is_rules : FileKind → Bool
-is_rules Rules = true
-is_rules Hwdb = false
-
 -- the paths that the rules of a file name in full, as udev reads them; a file without the key is not read as rules
 unfoldable pub paths_in : SourceFile → List Text
 paths_in file =
-    if is_rules file.kind then (if mentions file.bytes then paths_within (set_of_as Udev (file_as_read Udev file ∷ [])).rules else [])
+    if same_kind file.kind Rules then (if mentions file.bytes then paths_within (set_of_as Udev (file_as_read Udev file ∷ [])).rules else [])
     else []
 
 -- the paths that the rules of files name in full, in the order of the files and rules

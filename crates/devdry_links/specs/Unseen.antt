@@ -19,15 +19,11 @@ has_no_break_after before (b ∷ text) = (before == 194 && b == 160) || has_no_b
 abbrev pub has_no_break : Text → Bool
 has_no_break text = has_no_break_after 0 text
 
--- whether a line is a comment
-abbrev pub is_comment : Text → Bool
-is_comment line = begins_with hash (unindented line)
-
 -- whether a line has it: a byte order mark at its start, a carriage return at its end, or a no-break space if it is no comment
 abbrev pub is_in : Unseen → Text → Bool
 is_in Mark line = is_some (following byte_order_mark line)
 is_in Return line = ends_in carriage_return line
-is_in NoBreak line = not (is_comment line) && has_no_break line
+is_in NoBreak line = not (begins_with hash (unindented line)) && has_no_break line
 
 -- what is told of it
 abbrev pub told_of : Unseen → Text

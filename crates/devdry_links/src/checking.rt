@@ -1,6 +1,6 @@
 //! The `.link` files and drop-ins that are checked.
-ghost use Rattle.std.specs.Prelude.{◌≡◌, ◌≤◌, IfOk, filter, option_map};
-ghost use Rattle.devdry_links.specs.Checking.{AreLinksFor, AreLinksToCheck, AreNamed, counts, counts_as_drop_in, is_shown};
+ghost use Rattle.std.specs.Prelude.{◌≡◌, ◌≤◌, IfOk, filter};
+ghost use Rattle.devdry_links.specs.Checking.{AreLinksFor, AreLinksToCheck, AreNamed, counts, counts_as_drop_in};
 
 use crate::survey::survey;
 use devdry_files::{Disk, RootedDisk};
@@ -19,36 +19,22 @@ pub struct LinksToCheck {
     pub report: Report,
 }
 
-/// Whether a file counts.
-fn counts(file: &SourceFile) -> bool
-    ensures { result ≡ counts file.now }
-{
-    !is_masked(file)
-}
-
 /// Those files that count.
 fn counting(mut files: Vec<SourceFile>) -> Vec<SourceFile>
     ensures { result.items ≡ filter counts files.items }
 {
-    files.retain(|file| counts(file));
+    files.retain(|file| !is_masked(file));
     files
-}
-
-/// Whether the name of a drop-in in its folder does not begin with a dot, by the parts around the slash.
-fn is_shown(parts: Option<(&[u8], &[u8])>) -> bool
-    ensures { result ≡ is_shown (option_map (λ p. (p.0.now, p.1.now)) parts.entry) }
-{
-    match parts {
-        Some((_, name)) => !begins_with(b'.', name),
-        None => false,
-    }
 }
 
 /// Whether a drop-in counts.
 fn counts_as_drop_in(file: &SourceFile) -> bool
     ensures { result ≡ counts_as_drop_in file.now }
 {
-    !file.bytes.as_slice().is_empty() && is_shown(split_once(b'/', file.name.as_slice()))
+    match split_once(b'/', file.name.as_slice()) {
+        Some((_, name)) => !file.bytes.as_slice().is_empty() && !begins_with(b'.', name),
+        None => false,
+    }
 }
 
 /// Those drop-ins that count.

@@ -4,26 +4,13 @@ ghost use Rattle.text_bytes.specs.Text.{Text};
 ghost use Rattle.devdry_files.specs.Inside.{MayInside};
 ghost use Rattle.builtin_devices.specs.Knowledge.{FilesFound};
 ghost use Rattle.devdry_links.specs.Naming.{paths_named};
-ghost use Rattle.devdry_links.specs.ImportReading.{AreFound, IsFound, IsFoundBelow, IsFoundBy, IsReadSo, with_found};
+ghost use Rattle.devdry_links.specs.ImportReading.{AreFound, IsFound, IsFoundBelow, IsFoundBy};
 
 use crate::naming::paths_named;
 use builtin_devices::{RootFile, RootFiles};
 use devdry_files::{Disk, DiskFault, Look, RootedDisk, path_below};
 use std::alloc::{AllocError, Global};
 use text_bytes::{Bytes, SourceFile};
-
-/// The outcome of reading the file at a path.
-fn read_at<D: Disk>(alloc: Global, disk: &D, path: &str) -> Result<Option<RootFile>, AllocError>
-    ensures { IfOk result (IsReadSo (D.may_answer disk.now) path.now) }
-{
-    match disk.read(alloc, path) {
-        Ok(bytes) => Ok(Some(RootFile::Read(bytes))),
-        Err(DiskFault::Absent) => Ok(Some(RootFile::Absent)),
-        Err(DiskFault::Unreadable) => Ok(None),
-        Err(DiskFault::NotUtf8) => Ok(None),
-        Err(DiskFault::OutOfMemory) => Err(AllocError),
-    }
-}
 
 /// What is found at a path, by a look at it.
 fn found_by<D: Disk>(
@@ -35,7 +22,13 @@ fn found_by<D: Disk>(
     ensures { IfOk result (IsFoundBy (D.may_answer disk.now) path.now look) }
 {
     match look {
-        Look::File => read_at(alloc, disk, path),
+        Look::File => match disk.read(alloc, path) {
+            Ok(bytes) => Ok(Some(RootFile::Read(bytes))),
+            Err(DiskFault::Absent) => Ok(Some(RootFile::Absent)),
+            Err(DiskFault::Unreadable) => Ok(None),
+            Err(DiskFault::NotUtf8) => Ok(None),
+            Err(DiskFault::OutOfMemory) => Err(AllocError),
+        },
         Look::Absent => Ok(Some(RootFile::Absent)),
         Look::Folder | Look::Forbidden | Look::Other | Look::Failed => Ok(None),
     }
@@ -67,21 +60,6 @@ fn found_below<D: Disk>(
     }
 }
 
-/// Adds what was found at a path, if that is anything.
-fn add_found(
-    alloc: Global,
-    path: &[u8],
-    it: Option<RootFile>,
-    found: &mut RootFiles,
-) -> Result<(), AllocError>
-    ensures { OnOk result (found.new ≡ with_found path.now it found.old) }
-{
-    match it {
-        Some(it) => found.add(alloc, path, it),
-        None => Ok(()),
-    }
-}
-
 /// Looks at a path below a root, unless something was found there before.
 fn look_below<D: Disk>(
     alloc: Global,
@@ -96,8 +74,10 @@ fn look_below<D: Disk>(
     if found.contains(path) {
         return Ok(());
     }
-    let it = found_below(alloc, disk, root, path)?;
-    add_found(alloc, path, it, found)
+    match found_below(alloc, disk, root, path)? {
+        Some(it) => found.add(alloc, path, it),
+        None => Ok(()),
+    }
 }
 
 /// What is found at paths below a root.

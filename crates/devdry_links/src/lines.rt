@@ -1,14 +1,14 @@
 //! Lines with what no editor shows.
 ghost use Rattle.std.specs.Prelude.{◌≡◌, ◌++◌, OnOk};
-ghost use Rattle.devdry_links.specs.Notes.{first_with, note_at};
+ghost use Rattle.devdry_links.specs.Notes.{first_note, first_with};
 
 use crate::unseen::Unseen;
 use engine_sessions::push_place;
 use std::alloc::{AllocError, Global};
-use text_bytes::{Line, Lines, capped};
+use text_bytes::{Line, Lines, SourceFile, capped};
 
 /// The first line of a file that has what no editor shows.
-pub(crate) fn first_with(unseen: Unseen, bytes: &[u8]) -> Option<Line<'_>>
+fn first_with(unseen: Unseen, bytes: &[u8]) -> Option<Line<'_>>
     ensures { result ≡ first_with unseen bytes.now }
 {
     for line in Lines::new(bytes) {
@@ -19,19 +19,18 @@ pub(crate) fn first_with(unseen: Unseen, bytes: &[u8]) -> Option<Line<'_>>
     None
 }
 
-/// Adds the note on a line of a file, if there is one.
-pub(crate) fn push_note_at(
+/// Adds the note on the first line of a file that has what no editor shows, if there is one.
+pub(crate) fn push_first(
     alloc: Global,
     notes: &mut Vec<u8>,
-    name: &[u8],
+    file: &SourceFile,
     unseen: Unseen,
-    found: Option<Line<'_>>,
 ) -> Result<(), AllocError>
-    ensures { OnOk result (notes.new.items ≡ notes.old.items ++ note_at name.now unseen found.entry) }
+    ensures { OnOk result (notes.new.items ≡ notes.old.items ++ first_note file.now unseen) }
 {
-    if let Some(line) = found {
+    if let Some(line) = first_with(unseen, file.bytes.as_slice()) {
         notes.extend_from_slice(b"devdry: ")?;
-        push_place(alloc, notes, name, capped(line.number()))?;
+        push_place(alloc, notes, file.name.as_slice(), capped(line.number()))?;
         notes.extend_from_slice(unseen.told())?;
         notes.push(b'\n')?;
     }

@@ -1,8 +1,8 @@
 //! Rules files that a text of `--why` may ask for, and that are not read.
 ghost use Rattle.std.specs.List.{list_any};
-ghost use Rattle.std.specs.Prelude.{◌≡◌, ◌++◌, OnOk, flat_map, option_map};
+ghost use Rattle.std.specs.Prelude.{◌≡◌, ◌++◌, OnOk, option_map};
 ghost use Rattle.devdry_links.specs.Lying.{answers, asks_lying, is_asked, is_at, is_events, is_line_or_nothing, is_missed, is_read};
-ghost use Rattle.devdry_links.specs.Lying.{is_name_of, lying_note, lying_notes, may_ask, name_in};
+ghost use Rattle.devdry_links.specs.Lying.{lying_note, lying_notes, may_ask, name_in};
 
 use crate::notes::{is_hidden, push_note};
 use engine_sessions::{Line, Verb, folder_path, same_kind};
@@ -70,17 +70,11 @@ fn is_answered(files: &[SourceFile], name: &[u8]) -> bool
 fn is_at(root: &[u8], files: &[SourceFile], path: &[u8], file: &SourceFile) -> bool
     ensures { result ≡ is_at root.now files.now path.now file.now }
 {
-    same_kind(file.kind, FileKind::Rules) && is_path_of(root, file, path) && !is_hidden(files, file)
-}
-
-/// Whether a path is that of a file of the folders.
-fn is_path_of(root: &[u8], file: &SourceFile, path: &[u8]) -> bool
-    ensures { result ≡ is_name_of file.now (name_in root.now file.now path.now) }
-{
-    match name_in(root, file, path) {
+    let is_named_so = match name_in(root, file, path) {
         None => false,
         Some(name) => name == file.name.as_slice(),
-    }
+    };
+    same_kind(file.kind, FileKind::Rules) && is_named_so && !is_hidden(files, file)
 }
 
 /// What follows the folder of a file, and a slash, in a path.
@@ -130,22 +124,6 @@ fn push_lying_note(
     Ok(())
 }
 
-/// Adds the notes on the files at these paths.
-fn push_all_lying(
-    alloc: Global,
-    notes: &mut Vec<u8>,
-    line: &Line<'_>,
-    files: &[SourceFile],
-    paths: &[Bytes],
-) -> Result<(), AllocError>
-    ensures { OnOk result (notes.new.items ≡ notes.old.items ++ flat_map (lying_note line.now files.now) paths.now) }
-{
-    for path in paths {
-        push_lying_note(alloc, notes, line, files, path.as_slice())?;
-    }
-    Ok(())
-}
-
 /// Adds the notes on the files at these paths, if the line asks for them.
 pub(crate) fn push_lying(
     alloc: Global,
@@ -156,8 +134,11 @@ pub(crate) fn push_lying(
 ) -> Result<(), AllocError>
     ensures { OnOk result (notes.new.items ≡ notes.old.items ++ lying_notes line.now files.now paths.now) }
 {
-    if asks_lying(line) {
-        push_all_lying(alloc, notes, line, files, paths)?;
+    if !asks_lying(line) {
+        return Ok(());
+    }
+    for path in paths {
+        push_lying_note(alloc, notes, line, files, path.as_slice())?;
     }
     Ok(())
 }

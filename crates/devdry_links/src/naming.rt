@@ -4,10 +4,10 @@ ghost use Rattle.std.specs.Option.{option_to_list};
 ghost use Rattle.text_bytes.specs.declared.profile.Profile.TheVariants.{Udev};
 ghost use Rattle.rule_core.specs.Ends.{file_as_read};
 ghost use Rattle.rule_core.specs.Rules.{set_of_as};
-ghost use Rattle.rule_core.specs.declared.fault.RulesFault.TheVariants.{TooMany};
-ghost use Rattle.devdry_links.specs.Naming.{is_rules, mentions, path_of_import, path_of_kind, path_of_piece, path_of_pieces};
-ghost use Rattle.devdry_links.specs.Naming.{paths_in, paths_named, paths_of, paths_within, whole_path};
+ghost use Rattle.devdry_links.specs.Naming.{mentions, path_of_kind, path_of_piece, path_of_pieces};
+ghost use Rattle.devdry_links.specs.Naming.{paths_in, paths_named, paths_of, paths_within};
 
+use engine_sessions::same_kind;
 use rule_core::{RulesFault, files_as_read, read_rules_as};
 use rule_tokens::Piece;
 use rule_types::{Act, ActKind, Import, Rule};
@@ -17,23 +17,19 @@ use text_bytes::{Bytes, FileKind, Profile, SourceFile, begins_with, following};
 /// The key of an act that imports a file.
 const KEY: &[u8] = b"IMPORT{file}";
 
-/// A text, if it begins with a slash.
-fn whole_path(text: &[u8]) -> Option<&[u8]>
-    ensures { option_map (λ t. t.now) result ≡ whole_path text.now }
-{
-    if begins_with(b'/', text) {
-        Some(text)
-    } else {
-        None
-    }
-}
-
-/// The path that a piece is, if it is not a substitution.
+/// The path that a piece is, if it begins with a slash and is not a substitution.
 fn path_of_piece(piece: &Piece) -> Option<&[u8]>
     ensures { option_map (λ t. t.now) result ≡ path_of_piece piece.now }
 {
     match piece {
-        Piece::Plain(text) => whole_path(text.as_slice()),
+        Piece::Plain(text) => {
+            let text = text.as_slice();
+            if begins_with(b'/', text) {
+                Some(text)
+            } else {
+                None
+            }
+        }
         _ => None,
     }
 }
@@ -50,36 +46,13 @@ fn path_of_pieces(pieces: &[Piece]) -> Option<&[u8]>
     }
 }
 
-/// The path of an IMPORT{file}, if it is written in full.
-fn path_of_import(from: &Import) -> Option<&[u8]>
-    ensures { option_map (λ t. t.now) result ≡ path_of_import from.now }
-{
-    match from {
-        Import::File(template) => path_of_pieces(template.pieces()),
-        _ => None,
-    }
-}
-
 /// The path of the file that an act imports, if it is written in full.
 fn path_of_kind(kind: &ActKind) -> Option<&[u8]>
     ensures { option_map (λ t. t.now) result ≡ path_of_kind kind.now }
 {
     match kind {
-        ActKind::Import(from) => path_of_import(from),
+        ActKind::Import(Import::File(template)) => path_of_pieces(template.pieces()),
         _ => None,
-    }
-}
-
-/// Adds a copy of a path, if there is one.
-fn push_path(alloc: Global, path: Option<&[u8]>, paths: &mut Vec<Bytes>) -> Result<(), AllocError>
-    ensures { OnOk result (paths.new.items ≡ paths.old.items ++ option_to_list (option_map (λ t. t.now) path.entry)) }
-{
-    match path {
-        Some(path) => {
-            paths.push(Bytes::copy_of(alloc, path)?)?;
-            Ok(())
-        }
-        None => Ok(()),
     }
 }
 
@@ -88,7 +61,9 @@ fn push_paths_in(alloc: Global, acts: &[Act], paths: &mut Vec<Bytes>) -> Result<
     ensures { OnOk result (paths.new.items ≡ paths.old.items ++ flat_map (λ act. option_to_list (path_of_kind act.kind)) acts.now) }
 {
     for act in acts {
-        push_path(alloc, path_of_kind(&act.kind), paths)?;
+        if let Some(path) = path_of_kind(&act.kind) {
+            paths.push(Bytes::copy_of(alloc, path)?)?;
+        }
     }
     Ok(())
 }
@@ -117,45 +92,18 @@ fn mentions(text: &[u8]) -> bool
     false
 }
 
-/// Whether a file is one of rules.
-fn is_rules(kind: FileKind) -> bool
-    ensures { result ≡ is_rules kind }
-{
-    match kind {
-        FileKind::Rules => true,
-        FileKind::Hwdb => false,
-    }
-}
-
-/// A file, copied.
-fn copy_of(alloc: Global, file: &SourceFile) -> Result<SourceFile, AllocError>
-    ensures { IfOk result (λ copy. copy ≡ file.now) }
-{
-    Ok(SourceFile {
-        kind: file.kind,
-        rank: file.rank,
-        name: Bytes::copy_of(alloc, file.name.as_slice())?,
-        bytes: Bytes::copy_of(alloc, file.bytes.as_slice())?,
-    })
-}
-
 /// One file, copied, as udev reads it.
 fn as_read(alloc: Global, file: &SourceFile) -> Result<Vec<SourceFile>, AllocError>
     ensures { IfOk result (λ files. files.items ≡ file_as_read Udev file.now ∷ []) }
 {
     let mut files = Vec::new(alloc);
-    files.push(copy_of(alloc, file)?)?;
+    files.push(SourceFile {
+        kind: file.kind,
+        rank: file.rank,
+        name: Bytes::copy_of(alloc, file.name.as_slice())?,
+        bytes: Bytes::copy_of(alloc, file.bytes.as_slice())?,
+    })?;
     files_as_read(alloc, Profile::Udev, files)
-}
-
-/// Nothing, unless memory ran out.
-fn unless_memory(fault: RulesFault) -> Result<(), AllocError>
-    ensures { OnOk result (fault ≡ TooMany) }
-{
-    match fault {
-        RulesFault::TooMany => Ok(()),
-        RulesFault::Memory => Err(AllocError),
-    }
 }
 
 /// Adds the paths that the rules of files name in full, if they hold no more than rules may.
@@ -168,7 +116,8 @@ fn push_paths_within(
 {
     match read_rules_as(alloc, Profile::Udev, files) {
         Ok(read) => push_paths_of(alloc, read.rules().rules(), paths),
-        Err(fault) => unless_memory(fault),
+        Err(RulesFault::TooMany) => Ok(()),
+        Err(RulesFault::Memory) => Err(AllocError),
     }
 }
 
@@ -177,7 +126,7 @@ fn push_paths_within(
 fn push_paths(alloc: Global, file: &SourceFile, paths: &mut Vec<Bytes>) -> Result<(), AllocError>
     ensures { OnOk result (paths.new.items ≡ paths.old.items ++ paths_in file.now) }
 {
-    if !is_rules(file.kind) {
+    if !same_kind(file.kind, FileKind::Rules) {
         return Ok(());
     }
     if !mentions(file.bytes.as_slice()) {

@@ -1,13 +1,13 @@
 //! What is told about files before their messages.
 ghost use Rattle.std.specs.List.{list_any};
 ghost use Rattle.std.specs.Prelude.{◌≡◌, ◌++◌, IfOk, OnOk, flat_map, map};
-ghost use Rattle.devdry_links.specs.Notes.{first_note, folder_note, hides, kind_note, kind_notes, note_on, other_kind};
+ghost use Rattle.devdry_links.specs.Notes.{folder_note, hides, kind_note, kind_notes, note_on, other_kind};
 ghost use Rattle.devdry_links.specs.Notes.{return_note, root_notes, told_of_kind, told_of_root};
 ghost use Rattle.devdry_links.specs.Notes.{unseen_among, unseen_in, unseen_notes};
 ghost use Rattle.devdry_links.specs.Told.{notes_of};
 
 use crate::asked::{asks_kinds, asks_root, asks_unseen};
-use crate::lines::{first_with, push_note_at};
+use crate::lines::push_first;
 use crate::lying::push_lying;
 use crate::ranks::RankedFiles;
 use crate::unseen::Unseen;
@@ -33,19 +33,6 @@ pub(crate) fn push_note(
     notes.extend_from_slice(text)?;
     notes.push(b'\n')?;
     Ok(())
-}
-
-/// Adds the note on the first line of a file that has what no editor shows, if there is one.
-fn push_first(
-    alloc: Global,
-    notes: &mut Vec<u8>,
-    file: &SourceFile,
-    unseen: Unseen,
-) -> Result<(), AllocError>
-    ensures { OnOk result (notes.new.items ≡ notes.old.items ++ first_note file.now unseen) }
-{
-    let found = first_with(unseen, file.bytes.as_slice());
-    push_note_at(alloc, notes, file.name.as_slice(), unseen, found)
 }
 
 /// Adds the note on the first line of a file that ends in a carriage return, by the manual, to which that is none of
@@ -130,21 +117,6 @@ fn told_of_kind(kind: FileKind) -> &'static [u8]
     }
 }
 
-/// Adds the note on a named file, if its name ends as those of a kind do.
-fn push_kind(
-    alloc: Global,
-    notes: &mut Vec<u8>,
-    kind: FileKind,
-    path: &str,
-) -> Result<(), AllocError>
-    ensures { OnOk result (notes.new.items ≡ notes.old.items ++ kind_note kind path.now) }
-{
-    if path.as_bytes().ends_with(kind.suffix().as_bytes()) {
-        push_note(alloc, notes, path.as_bytes(), told_of_kind(kind))?;
-    }
-    Ok(())
-}
-
 /// The note on a folder where a file is wanted, which is a line of its own.
 ///
 /// Fails if memory runs out.
@@ -171,7 +143,9 @@ fn push_named(
     ensures { OnOk result (notes.new.items ≡ notes.old.items ++ flat_map (kind_note kind) (map (λ f. f.now) paths.now)) }
 {
     for path in paths {
-        push_kind(alloc, notes, kind, path)?;
+        if path.as_bytes().ends_with(kind.suffix().as_bytes()) {
+            push_note(alloc, notes, path.as_bytes(), told_of_kind(kind))?;
+        }
     }
     Ok(())
 }
@@ -206,22 +180,6 @@ fn push_root(
     Ok(())
 }
 
-/// Adds what is told of each of these files, among all of them.
-fn push_each(
-    alloc: Global,
-    notes: &mut Vec<u8>,
-    profile: Profile,
-    files: &[SourceFile],
-) -> Result<(), AllocError>
-    ensures { OnOk result (notes.new.items ≡ notes.old.items ++ flat_map (unseen_among profile files.now) files.now) }
-{
-    let ranked = RankedFiles::of(alloc, files)?;
-    for file in files {
-        push_among(alloc, notes, profile, &ranked, file)?;
-    }
-    Ok(())
-}
-
 /// Adds the notes on what no editor shows in files.
 fn push_unseen_of(
     alloc: Global,
@@ -231,8 +189,12 @@ fn push_unseen_of(
 ) -> Result<(), AllocError>
     ensures { OnOk result (notes.new.items ≡ notes.old.items ++ unseen_notes line.now files.now) }
 {
-    if asks_unseen(line) {
-        push_each(alloc, notes, line.profile, files)?;
+    if !asks_unseen(line) {
+        return Ok(());
+    }
+    let ranked = RankedFiles::of(alloc, files)?;
+    for file in files {
+        push_among(alloc, notes, line.profile, &ranked, file)?;
     }
     Ok(())
 }

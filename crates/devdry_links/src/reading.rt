@@ -18,15 +18,6 @@ pub struct LinksRead {
     pub report: Report,
 }
 
-/// The path of a file below a root.
-fn path_below(alloc: Global, root: &str, link: &LinkFile) -> Result<Vec<u8>, AllocError>
-    ensures { IfOk result (λ path. path.items ≡ root.now ++ link.now.path) }
-{
-    let mut path = Vec::from_slice(alloc, root.as_bytes())?;
-    path.extend_from_slice(link.path())?;
-    Ok(path)
-}
-
 /// Adds the line on a file that is not used since a line of it, or of a drop-in, is not understood.
 fn push_line(
     alloc: Global,
@@ -39,7 +30,8 @@ fn push_line(
     if link.is_sound() {
         return Ok(());
     }
-    let path = path_below(alloc, root, link)?;
+    let mut path = Vec::from_slice(alloc, root.as_bytes())?;
+    path.extend_from_slice(link.path())?;
     push_escaped(alloc, lines, b"devdry: ", &path)?;
     lines.extend_from_slice(b": not used: a line of it or of a drop-in is not understood\n")
 }

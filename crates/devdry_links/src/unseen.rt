@@ -1,6 +1,6 @@
 //! What is in a line, and no editor shows.
 ghost use Rattle.std.specs.Prelude.{◌≡◌, is_some};
-ghost use Rattle.devdry_links.specs.Unseen.{has_no_break, is_comment, is_in, told_of};
+ghost use Rattle.devdry_links.specs.Unseen.{has_no_break, is_in, told_of};
 
 use text_bytes::{begins_with, ends_in, following, unindented};
 
@@ -31,13 +31,6 @@ fn has_no_break(text: &[u8]) -> bool
     false
 }
 
-/// Whether a line is a comment.
-fn is_comment(line: &[u8]) -> bool
-    ensures { result ≡ is_comment line.now }
-{
-    begins_with(b'#', unindented(line))
-}
-
 impl Unseen {
     /// Whether a line has it.
     pub(crate) fn is_in(self, line: &[u8]) -> bool
@@ -46,7 +39,7 @@ impl Unseen {
         match self {
             Unseen::Mark => following(BYTE_ORDER_MARK, line).is_some(),
             Unseen::Return => ends_in(b'\r', line),
-            Unseen::NoBreak => !is_comment(line) && has_no_break(line),
+            Unseen::NoBreak => !begins_with(b'#', unindented(line)) && has_no_break(line),
         }
     }
 

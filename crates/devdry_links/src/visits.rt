@@ -1,6 +1,6 @@
 //! Looks for `.link` files and drop-ins, one folder after another, whatever the outcome.
 ghost use Rattle.std.specs.Prelude.{◌≡◌, ◌++◌, ◌∷◌, [], IfOk, OnOk, flat_map};
-ghost use Rattle.devdry_links.specs.Visits.{AreVisits, IsVisit, file_at, file_of_sight, files_of, files_of_visit, lines_on_visit, unread_lines};
+ghost use Rattle.devdry_links.specs.Visits.{AreVisits, IsVisit, file_at, file_of_sight, files_of, unread_lines};
 
 use crate::places::LinkPlace;
 use devdry_files::Disk;
@@ -41,32 +41,6 @@ pub(crate) fn visits<D: Disk>(
     Ok(visits)
 }
 
-/// The name of a file with what comes before it in a folder.
-fn name_in(alloc: Global, place: &LinkPlace, name: &[u8]) -> Result<Bytes, AllocError>
-    ensures { IfOk result (λ whole. whole ≡ place.now.before ++ name.now) }
-{
-    let mut whole = Vec::from_slice(alloc, place.before())?;
-    whole.extend_from_slice(name)?;
-    Ok(Bytes::new(whole))
-}
-
-/// A file of a folder.
-fn file_at(
-    alloc: Global,
-    place: &LinkPlace,
-    name: &[u8],
-    bytes: Bytes,
-) -> Result<SourceFile, AllocError>
-    ensures { IfOk result (λ file. file ≡ file_at place.now name.now bytes) }
-{
-    Ok(SourceFile {
-        kind: FileKind::Rules,
-        rank: place.rank(),
-        name: name_in(alloc, place, name)?,
-        bytes,
-    })
-}
-
 /// Adds a file of a folder.
 fn push_at(
     alloc: Global,
@@ -77,7 +51,14 @@ fn push_at(
 ) -> Result<(), AllocError>
     ensures { OnOk result (files.new.items ≡ files.old.items ++ file_at place.now name.now bytes ∷ []) }
 {
-    files.push(file_at(alloc, place, name, bytes)?)?;
+    let mut whole = Vec::from_slice(alloc, place.before())?;
+    whole.extend_from_slice(name)?;
+    files.push(SourceFile {
+        kind: FileKind::Rules,
+        rank: place.rank(),
+        name: Bytes::new(whole),
+        bytes,
+    })?;
     Ok(())
 }
 
@@ -118,40 +99,16 @@ fn push_files(
     Ok(())
 }
 
-/// Adds the files of a visit.
-fn push_files_of(
-    alloc: Global,
-    visit: LinkVisit,
-    files: &mut Vec<SourceFile>,
-) -> Result<(), AllocError>
-    ensures { OnOk result (files.new.items ≡ files.old.items ++ files_of_visit visit) }
-{
-    let LinkVisit { place, scan } = visit;
-    push_files(alloc, &place, scan.sights, files)
-}
-
 /// The files of visits, in their order: one that can't be read has no bytes. The bytes of files are not copied.
 pub(crate) fn files_of(alloc: Global, visits: Vec<LinkVisit>) -> Result<Vec<SourceFile>, AllocError>
     ensures { IfOk result (λ files. files.items ≡ files_of visits.items) }
 {
     let mut files = Vec::new(alloc);
     for visit in visits {
-        push_files_of(alloc, visit, &mut files)?;
+        let LinkVisit { place, scan } = visit;
+        push_files(alloc, &place, scan.sights, &mut files)?;
     }
     Ok(files)
-}
-
-/// Adds the lines on what can't be read in a folder.
-fn push_lines(alloc: Global, visit: &LinkVisit, lines: &mut Vec<u8>) -> Result<(), AllocError>
-    ensures { OnOk result (lines.new.items ≡ lines.old.items ++ lines_on_visit visit.now) }
-{
-    push_on_scan(
-        alloc,
-        lines,
-        false,
-        visit.place.path().as_bytes(),
-        &visit.scan,
-    )
 }
 
 /// Adds the lines on what can't be read, in the order of the visits.
@@ -163,7 +120,8 @@ pub(crate) fn push_unread_lines(
     ensures { OnOk result (lines.new.items ≡ lines.old.items ++ unread_lines visits.now) }
 {
     for visit in visits {
-        push_lines(alloc, visit, lines)?;
+        let path = visit.place.path().as_bytes();
+        push_on_scan(alloc, lines, false, path, &visit.scan)?;
     }
     Ok(())
 }

@@ -48,10 +48,6 @@ unfoldable pub is_function : (name : Text) → Bool
 is_function name =
     option_map_or (λ cut. nat_le 4 (length cut.0) && list_all is_ascii_hexdigit cut.0 && is_on_bus cut.1) (split_once colon name) false
 
--- whether a name is that of a USB device: a root hub, `usbN`, or one at a port
-abbrev pub is_usb_device : (name : Text) → Bool
-is_usb_device name = is_numbered (codes "usb") name || is_at_port name
-
 -- whether a text is `HOST:BUS:TARGET`, numbers
 unfoldable pub is_place : Text → Bool
 is_place text = option_map_or (λ cut. is_decimal cut.0 && are_two colon cut.1) (split_once colon text) false
@@ -60,19 +56,15 @@ is_place text = option_map_or (λ cut. is_decimal cut.0 && are_two colon cut.1) 
 abbrev pub is_target : (name : Text) → Bool
 is_target name = option_map_or is_place (following (codes "target") name) false
 
--- whether a name is that of an NVMe controller, `nvmeN`, or of an NVMe subsystem, `nvme-subsysN`
-abbrev pub is_nvme : (name : Text) → Bool
-is_nvme name = is_numbered (codes "nvme") name || is_numbered (codes "nvme-subsys") name
-
--- the kind of device that a name says
+-- the kind of device that a name says: a root hub is `usbN`, an NVMe controller `nvmeN`, and an NVMe subsystem `nvme-subsysN`
 unfoldable pub kind_of : (name : Text) → Option Kind
 kind_of name =
     if is_function name then Some kind.Function
-    else if is_usb_device name then Some kind.UsbDevice
+    else if is_numbered (codes "usb") name || is_at_port name then Some kind.UsbDevice
     else if is_interface name then Some kind.UsbInterface
     else if is_numbered (codes "host") name || is_target name then Some kind.ScsiParent
     else if is_some (address_of name) then Some kind.ScsiDevice
-    else if is_nvme name then Some kind.Nvme
+    else if is_numbered (codes "nvme") name || is_numbered (codes "nvme-subsys") name then Some kind.Nvme
     else if is_numbered (codes "virtio") name then Some kind.Virtio
     else if is_numbered (codes "serio") name then Some kind.Serio
     else if is_numbered (codes "input") name then Some kind.Input

@@ -1,5 +1,5 @@
 -- What the block would have to report for a builtin that goes up from the event device: the devices that paths show.
-use Rattle.std.specs.Prelude.{ℕ, ◌==◌, ◌&&◌, ◌||◌, not, nat_eq, Bool, true, false, is_none, is_some, List, [], ◌∷◌, ◌++◌, flat_map, Option, Some, None}
+use Rattle.std.specs.Prelude.{◌&&◌, ◌||◌, not, nat_eq, Bool, true, false, is_none, is_some, List, [], ◌∷◌, ◌++◌, flat_map, Option, Some, None}
 use Rattle.std.specs.Prelude.{option_and_then, if◌then◌else◌, codes}
 use Rattle.std.specs.List.{list_any, starts_with}
 use Rattle.std.specs.Option.{option_map_or}
@@ -34,26 +34,18 @@ asks asker.NetId kind.UsbInterface = true
 asks asker.NetId kind.Virtio = true
 asks asker.NetId other = false
 
--- the same for what may be of no kind
-abbrev pub asks_for : Asker → Option Kind → Bool
-asks_for who None = false
-asks_for who (Some kind) = asks who kind
-
 -- whether the block gives a device with a path, and its subsystem
 abbrev pub is_given : EventValue → (path : Text) → Bool
 is_given event path = is_some (option_and_then (λ device. device.subsystem) (device_by event path))
 
 -- the name of the device with a path, if a builtin asks for it and the block does not give it
 abbrev pub missing : EventValue → Asker → (path : Text) → List Text
-missing event who path = if asks_for who (kind_at path) && not (is_given event path) then last_component path ∷ [] else []
-
--- the same for several paths
-abbrev pub all_missing : EventValue → Asker → (paths : List Text) → List Text
-all_missing event who paths = flat_map (missing event who) paths
+missing event who path =
+    if option_map_or (asks who) (kind_at path) false && not (is_given event path) then last_component path ∷ [] else []
 
 -- the same for all devices that a path shows
 abbrev pub missing_above : EventValue → Asker → (path : Text) → List Text
-missing_above event who path = all_missing event who (shown_paths path)
+missing_above event who path = flat_map (missing event who) (shown_paths path)
 
 -- the same for the event's own path, and for those of devices outside of its chain, which the block describes
 abbrev pub missing_everywhere : EventValue → Asker → List Text
@@ -75,32 +67,25 @@ abbrev pub input_words : EventValue → List Text
 input_words event =
     if is_some (attribute event.device (codes "capabilities/ev")) then [] else missing_above event asker.InputId event.device.path
 
--- whether a device is a virtual function of PCI by its configuration, in which maker and model are all ones
-abbrev pub is_virtual : (config : Option (List ℕ)) → Bool
-is_virtual None = false
-is_virtual (Some bytes) = starts_with nat_eq bytes (255 ∷ 255 ∷ 255 ∷ 255 ∷ [])
-
 -- what the file of a device says, by its name after a slash
 abbrev pub file_of : EventValue → DeviceValue → (name : Text) → Option Text
 file_of event device name = file_at event (device.path ++ name)
 
--- whether a device is a virtual function, and the block does not say of which physical one
+-- whether a device is a virtual function of PCI, by its configuration, in which maker and model are all ones, and the block does not
+-- say of which physical one
 unfoldable pub lacks_physical : EventValue → DeviceValue → Bool
 lacks_physical event device =
-    is_virtual (option_and_then bytes_of (file_of event device (codes "/config"))) && is_none (file_of event device (codes "/physfn"))
+    option_map_or (λ config. starts_with nat_eq config (255 ∷ 255 ∷ 255 ∷ 255 ∷ [])) (option_and_then bytes_of (file_of event device (codes "/config"))) false
+    && is_none (file_of event device (codes "/physfn"))
 
 -- the word for the link to a physical function
 abbrev pub physical_words : EventValue → List Text
 physical_words event = if list_any (lacks_physical event) (chain event) then codes "physfn" ∷ [] else []
 
--- whether names by a naming scheme are those of v257
-abbrev pub is_known_scheme : Text → Bool
-is_known_scheme scheme = same_text scheme (codes "v257") || same_text scheme (codes "latest")
-
--- the word for a naming scheme that the block gives and that is not known
+-- the word for a naming scheme that the block gives and that is not known: names by it are not those of v257
 abbrev pub other_scheme : Option Text → List Text
 other_scheme None = []
-other_scheme (Some scheme) = if is_known_scheme scheme then [] else (codes "scheme " ++ scheme) ∷ []
+other_scheme (Some scheme) = if same_text scheme (codes "v257") || same_text scheme (codes "latest") then [] else (codes "scheme " ++ scheme) ∷ []
 
 -- the same by the constant `scheme`
 abbrev pub scheme_words : EventValue → List Text

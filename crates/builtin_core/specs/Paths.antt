@@ -9,17 +9,14 @@ use Rattle.builtin_core.specs.Kinds.{kind_of}
 use Rattle.builtin_core.specs.declared.kinds.Kind.{Kind}
 use Rattle.builtin_core.specs.declared.kinds.Kind.TheVariants.{UsbDevice}
 
--- whether a component of a path ends at a place
-abbrev pub ends_at : (path : Text) → ℕ → Bool
-ends_at path place = place == length path || slice_index path place == slash
-
 -- the kind of device that the last component of a path says
 unfoldable pub kind_at : (path : Text) → Option Kind
 kind_at path = kind_of (last_component path)
 
--- the path of the device that a path shows before a place
+-- the path of the device that a path shows before a place, if a component of the path ends there
 unfoldable pub shown_before : (path : Text) → ℕ → Option Text
-shown_before path place = if ends_at path place && is_some (kind_at (take place path)) then Some (take place path) else None
+shown_before path place =
+    if (place == length path || slice_index path place == slash) && is_some (kind_at (take place path)) then Some (take place path) else None
 
 -- the paths of the devices that a path shows, its own among them, the nearest first
 unfoldable pub shown_paths : (path : Text) → List Text

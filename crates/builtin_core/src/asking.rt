@@ -1,6 +1,6 @@
 //! The builtins that go up from the event device, and what they look at.
 ghost use Rattle.std.specs.Prelude.{◌≡◌};
-ghost use Rattle.builtin_core.specs.Needs.{asks, asks_for};
+ghost use Rattle.builtin_core.specs.Needs.{asks};
 
 use crate::kinds::Kind;
 
@@ -18,7 +18,7 @@ pub enum Asker {
 }
 
 /// Whether a builtin looks at devices of a kind.
-fn asks(asker: Asker, kind: Kind) -> bool
+pub(crate) fn asks(asker: Asker, kind: Kind) -> bool
     ensures { result ≡ asks asker kind }
 {
     match asker {
@@ -29,15 +29,5 @@ fn asks(asker: Asker, kind: Kind) -> bool
         Asker::PathId => !matches!(kind, Kind::Input),
         Asker::InputId => matches!(kind, Kind::Input),
         Asker::NetId => matches!(kind, Kind::Function | Kind::UsbInterface | Kind::Virtio),
-    }
-}
-
-/// Whether a builtin looks at devices of what may be a kind.
-pub(crate) fn asks_for(asker: Asker, kind: Option<Kind>) -> bool
-    ensures { result ≡ asks_for asker kind }
-{
-    match kind {
-        Some(kind) => asks(asker, kind),
-        None => false,
     }
 }

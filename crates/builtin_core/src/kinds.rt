@@ -1,7 +1,7 @@
 //! What the name of a folder in the path of a device says that it is.
 ghost use Rattle.std.specs.Prelude.{◌≡◌};
 ghost use Rattle.builtin_core.specs.Kinds.{are_digits, are_ports, are_two, is_at_port, is_function, is_in_slot};
-ghost use Rattle.builtin_core.specs.Kinds.{is_interface, is_numbered, is_nvme, is_on_bus, is_place, is_target, is_usb_device, kind_of};
+ghost use Rattle.builtin_core.specs.Kinds.{is_interface, is_numbered, is_on_bus, is_place, is_target, kind_of};
 
 use builtin_devices::address_of;
 use text_bytes::{following, is_decimal, is_hexadecimal, split_once};
@@ -119,13 +119,6 @@ fn is_function(name: &[u8]) -> bool
     }
 }
 
-/// Whether a name is that of a USB device.
-fn is_usb_device(name: &[u8]) -> bool
-    ensures { result ≡ is_usb_device name.now }
-{
-    is_numbered(b"usb", name) || is_at_port(name)
-}
-
 /// Whether a text is `HOST:BUS:TARGET`.
 #[tactic(auto, unfolding(crate::specs::Kinds::is_place))]
 fn is_place(text: &[u8]) -> bool
@@ -147,13 +140,6 @@ fn is_target(name: &[u8]) -> bool
     }
 }
 
-/// Whether a name is that of an NVMe controller or subsystem.
-fn is_nvme(name: &[u8]) -> bool
-    ensures { result ≡ is_nvme name.now }
-{
-    is_numbered(b"nvme", name) || is_numbered(b"nvme-subsys", name)
-}
-
 /// The kind of device that a name says.
 #[tactic(auto, unfolding(crate::specs::Kinds::kind_of))]
 pub(crate) fn kind_of(name: &[u8]) -> Option<Kind>
@@ -161,7 +147,7 @@ pub(crate) fn kind_of(name: &[u8]) -> Option<Kind>
 {
     if is_function(name) {
         Some(Kind::Function)
-    } else if is_usb_device(name) {
+    } else if is_numbered(b"usb", name) || is_at_port(name) {
         Some(Kind::UsbDevice)
     } else if is_interface(name) {
         Some(Kind::UsbInterface)
@@ -169,7 +155,7 @@ pub(crate) fn kind_of(name: &[u8]) -> Option<Kind>
         Some(Kind::ScsiParent)
     } else if address_of(name).is_some() {
         Some(Kind::ScsiDevice)
-    } else if is_nvme(name) {
+    } else if is_numbered(b"nvme", name) || is_numbered(b"nvme-subsys", name) {
         Some(Kind::Nvme)
     } else if is_numbered(b"virtio", name) {
         Some(Kind::Virtio)

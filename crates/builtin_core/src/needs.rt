@@ -1,11 +1,10 @@
 //! What the block would have to report for a builtin that goes up from the event device.
-ghost use Rattle.std.specs.Prelude.{◌≡◌, [], IfOk, OnOk, flat_map, map, option_map};
+ghost use Rattle.std.specs.Prelude.{◌≡◌, [], IfOk, OnOk, map, option_map};
 ghost use Rattle.text_tables.specs.Texts.{with_texts};
-ghost use Rattle.builtin_core.specs.Needs.{all_missing, input_needs, is_given, is_known_scheme, missing, missing_above, missing_everywhere, missing_to_usb};
-ghost use Rattle.builtin_core.specs.Paths.{shown_paths};
-ghost use Rattle.builtin_core.specs.Needs.{net_needs, other_scheme, path_needs, scheme_words, usb_needs};
+ghost use Rattle.builtin_core.specs.Needs.{input_needs, is_given, missing, missing_above, missing_everywhere, missing_to_usb};
+ghost use Rattle.builtin_core.specs.Needs.{net_needs, other_scheme, path_needs, usb_needs};
 
-use crate::asking::{Asker, asks_for};
+use crate::asking::{Asker, asks};
 use crate::paths::{is_usb, kind_at, shown_paths};
 use crate::virtual_functions::need_physical;
 use builtin_devices::{Devices, attribute, is_text, type_of};
@@ -34,26 +33,12 @@ fn need_device(
 ) -> Result<(), AllocError>
     ensures { OnOk result (needs.new ≡ with_texts needs.old (missing devices.now asker path.now)) }
 {
-    if asks_for(asker, kind_at(path)) && !is_given(devices, path) {
-        return needs.add(alloc, last_component(path));
+    match kind_at(path) {
+        Some(kind) if asks(asker, kind) && !is_given(devices, path) => {
+            needs.add(alloc, last_component(path))
+        }
+        _ => Ok(()),
     }
-    Ok(())
-}
-
-/// Adds the names of those of the devices with these paths.
-fn need_devices(
-    alloc: Global,
-    devices: &Devices<'_>,
-    asker: Asker,
-    paths: &[&[u8]],
-    needs: &mut OwnedTexts,
-) -> Result<(), AllocError>
-    ensures { OnOk result (needs.new ≡ with_texts needs.old (all_missing devices.now asker (map (λ t. t.now) paths.now))) }
-{
-    for path in paths {
-        need_device(alloc, devices, asker, path, needs)?;
-    }
-    Ok(())
 }
 
 /// Adds the names of those that `usb_id` asks for, up to the first USB device and with that one.
@@ -85,21 +70,8 @@ fn need_above(
     ensures { OnOk result (needs.new ≡ with_texts needs.old (missing_above devices.now asker path.now)) }
 {
     let paths = shown_paths(alloc, path)?;
-    need_devices(alloc, devices, asker, &paths, needs)
-}
-
-/// Adds the names of those of the devices that the paths of these show.
-fn need_above_each(
-    alloc: Global,
-    devices: &Devices<'_>,
-    asker: Asker,
-    others: &[Device<'_>],
-    needs: &mut OwnedTexts,
-) -> Result<(), AllocError>
-    ensures { OnOk result (needs.new ≡ with_texts needs.old (flat_map (λ device. missing_above devices.now asker device.path) others.now)) }
-{
-    for other in others {
-        need_above(alloc, devices, asker, other.path(), needs)?;
+    for path in &paths {
+        need_device(alloc, devices, asker, path, needs)?;
     }
     Ok(())
 }
@@ -115,7 +87,9 @@ fn missing_among(
     let mut needs = OwnedTexts::new(alloc);
     let path = devices.event().device().path();
     need_above(alloc, devices, asker, path, &mut needs)?;
-    need_above_each(alloc, devices, asker, devices.described(), &mut needs)?;
+    for other in devices.described() {
+        need_above(alloc, devices, asker, other.path(), &mut needs)?;
+    }
     Ok(needs)
 }
 
@@ -131,25 +105,7 @@ fn missing_everywhere(
     missing_among(alloc, &devices, asker)
 }
 
-/// The names of those that `usb_id` asks for, of the devices that the event's own path shows.
-fn missing_to_usb(alloc: Global, event: &Event<'_>) -> Result<OwnedTexts, AllocError>
-    ensures { IfOk result (λ needs. needs ≡ with_texts [] (missing_to_usb event.now (shown_paths event.now.device.path))) }
-{
-    let devices = Devices::new(alloc, event)?;
-    let paths = shown_paths(alloc, event.device().path())?;
-    let mut needs = OwnedTexts::new(alloc);
-    need_to_usb(alloc, &devices, &paths, &mut needs)?;
-    Ok(needs)
-}
-
-/// Whether names by a naming scheme are those of v257.
-fn is_known_scheme(scheme: &[u8]) -> bool
-    ensures { result ≡ is_known_scheme scheme.now }
-{
-    scheme == b"v257".as_slice() || scheme == b"latest".as_slice()
-}
-
-/// Adds a naming scheme that is not known.
+/// Adds a naming scheme that is not known: names by it are not those of v257.
 fn need_scheme(
     alloc: Global,
     scheme: Option<&[u8]>,
@@ -158,7 +114,7 @@ fn need_scheme(
     ensures { OnOk result (needs.new ≡ with_texts needs.old (other_scheme (option_map (λ t. t.now) scheme.entry))) }
 {
     match scheme {
-        Some(scheme) if !is_known_scheme(scheme) => {
+        Some(scheme) if scheme != b"v257".as_slice() && scheme != b"latest".as_slice() => {
             let mut word = Vec::from_slice(alloc, b"scheme ")?;
             word.extend_from_slice(scheme)?;
             needs.add(alloc, &word)
@@ -179,7 +135,11 @@ pub(crate) fn usb_needs(alloc: Global, event: &Event<'_>) -> Result<OwnedTexts, 
     if is_text(b"usb_device", type_of(event.device())) {
         return Ok(OwnedTexts::new(alloc));
     }
-    missing_to_usb(alloc, event)
+    let devices = Devices::new(alloc, event)?;
+    let paths = shown_paths(alloc, event.device().path())?;
+    let mut needs = OwnedTexts::new(alloc);
+    need_to_usb(alloc, &devices, &paths, &mut needs)?;
+    Ok(needs)
 }
 
 /// What a block would have to report for `path_id` about the devices above: the names of those that the event's path

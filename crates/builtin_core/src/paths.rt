@@ -1,18 +1,10 @@
 //! The devices that a path shows.
 ghost use Rattle.std.specs.Prelude.{◌≡◌, ◌≤◌, IfOk, length, map, option_map};
-ghost use Rattle.builtin_core.specs.Paths.{ends_at, is_usb, kind_at, shown_before, shown_paths};
+ghost use Rattle.builtin_core.specs.Paths.{is_usb, kind_at, shown_before, shown_paths};
 
 use crate::kinds::{Kind, kind_of};
 use std::alloc::{AllocError, Global};
 use text_bytes::last_component;
-
-/// Whether a component of a path ends at a place.
-fn ends_at(path: &[u8], place: usize) -> bool
-    requires { place ≤ length path.now }
-    ensures { result ≡ ends_at path.now place }
-{
-    place == path.len() || path[place] == b'/'
-}
 
 /// The kind of device that the last component of a path says.
 #[tactic(auto, unfolding(crate::specs::Paths::kind_at))]
@@ -22,14 +14,14 @@ pub(crate) fn kind_at(path: &[u8]) -> Option<Kind>
     kind_of(last_component(path))
 }
 
-/// The path of the device that a path shows before a place.
+/// The path of the device that a path shows before a place, if a component of the path ends there.
 #[tactic(auto, unfolding(crate::specs::Paths::shown_before))]
 fn shown_before(path: &[u8], place: usize) -> Option<&[u8]>
     requires { place ≤ length path.now }
     ensures { option_map (λ t. t.now) result ≡ shown_before path.now place }
 {
     let (own, _) = path.split_at(place);
-    if ends_at(path, place) && kind_at(own).is_some() {
+    if (place == path.len() || path[place] == b'/') && kind_at(own).is_some() {
         Some(own)
     } else {
         None

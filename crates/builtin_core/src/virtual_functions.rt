@@ -3,7 +3,7 @@ ghost use Rattle.std.specs.Prelude.{◌≡◌, IfOk, OnOk, option_map};
 ghost use Rattle.std.specs.List.{list_any};
 ghost use Rattle.text_tables.specs.Texts.{with_texts};
 ghost use Rattle.device_core.specs.Values.{chain};
-ghost use Rattle.builtin_core.specs.Needs.{file_of, is_virtual, lacks_physical, physical_words};
+ghost use Rattle.builtin_core.specs.Needs.{file_of, lacks_physical, physical_words};
 
 use builtin_devices::{bytes_of, file_at};
 use device_core::{Device, Event};
@@ -24,14 +24,7 @@ fn file_of<'a>(
     Ok(file_at(event, &path))
 }
 
-/// Whether a configuration is that of a virtual function.
-fn is_virtual(config: &[u8]) -> bool
-    ensures { result ≡ is_virtual (Some config.now) }
-{
-    config.starts_with(b"\xff\xff\xff\xff")
-}
-
-/// Whether a device is a virtual function, and the block does not say of which physical one.
+/// Whether a device is a virtual function, by its configuration, and the block does not say of which physical one.
 #[tactic(auto, unfolding(crate::specs::Needs::lacks_physical))]
 fn lacks_physical(alloc: Global, event: &Event<'_>, device: &Device<'_>) -> Result<bool, AllocError>
     ensures { IfOk result (λ lacks. lacks ≡ lacks_physical event.now device.now) }
@@ -42,7 +35,8 @@ fn lacks_physical(alloc: Global, event: &Event<'_>, device: &Device<'_>) -> Resu
     let Some(config) = bytes_of(alloc, digits)? else {
         return Ok(false);
     };
-    Ok(is_virtual(&config) && file_of(alloc, event, device, b"/physfn")?.is_none())
+    let is_virtual = config.starts_with(b"\xff\xff\xff\xff");
+    Ok(is_virtual && file_of(alloc, event, device, b"/physfn")?.is_none())
 }
 
 /// Whether one of these devices is such a virtual function.

@@ -1,5 +1,5 @@
 -- What is found among values as they are seen.
-use Rattle.std.proofs.Common.{◌≡◌, ◌∙◌, Bool, true, false, cond, List, [], ◌∷◌, Option, None, Some, ap, find, map, option_map, refl, sym, unwrap_or}
+use Rattle.std.proofs.Common.{◌≡◌, ◌∙◌, Bool, true, false, cond, List, [], ◌∷◌, Option, Some, ap, find, map, option_map, refl, sym}
 
 -- to find among texts as they are seen is to find among them, and to see that
 find_seen : {A B : Type 0} (P : B → Bool) (f : A → B) (xs : List A) → find P (map f xs) ≡ option_map f (find (λ x. P (f x)) xs)
@@ -14,8 +14,3 @@ find_seen P f (x ∷ xs) = by (P (f x)) (find_seen P f xs)
 -- what is found among texts, as it is seen, is what is found among the texts as they are seen
 pub found_seen : {A B : Type 0} (P : B → Bool) (f : A → B) (xs : List A) (found : Option A) → found ≡ find (λ x. P (f x)) xs → option_map f found ≡ find P (map f xs)
 found_seen P f xs found is = ap (option_map f) is ∙ sym (find_seen P f xs)
-
--- a text or another one, as it is seen
-pub seen_or : {A B : Type 0} (f : A → B) (found : Option A) (other it : A) → it ≡ unwrap_or found other → f it ≡ unwrap_or (option_map f found) (f other)
-seen_or f None other it is = ap f is
-seen_or f (Some x) other it is = ap f is

@@ -1,5 +1,5 @@
 -- What clap finds in words, in those that it takes and in others.
-use Rattle.std.proofs.Common.{◌≡◌, ◌∙◌, ◌⊎◌, ◌||◌, Bool, true, false, inl, inr, List, [], ◌∷◌, None, Option, Some, ap, cond, codes, option_map, refl, subst, sym, unwrap_or}
+use Rattle.std.proofs.Common.{◌≡◌, ◌∙◌, ◌⊎◌, ◌↔◌, ◌||◌, Bool, true, false, inl, inr, List, [], ◌∷◌, None, Option, Some, IsTrue, ap, cond, codes, option_map, refl, subst, sym, unwrap_or}
 use Rattle.std.specs.Option.{option_map_or}
 use Rattle.clap.specs.Words.{App, HasMatchesOf, IsAmong, Kinds, Row, Text, fault_of, first_of, is_simple, is_simple_and_free, subcommand_of, subcommand_rows_of}
 use Rattle.clap.specs.declared.parser.matches.ArgMatches.{ArgMatches}
@@ -29,11 +29,16 @@ none_among : (k : ErrorKind) (kinds : Kinds) (o : Option Text) → IsAmong k kin
 none_among k [] o among = absurd among
 none_among k (x ∷ xs) o among = refl
 
+not_memory : (m : Bool) (A : Type 0) → (IsTrue m ↔ A) → m ≡ false → A → ⊥
+not_memory true A iff fails a = absurd (cc)
+not_memory false A iff fails a = let bad : false ≡ true = iff.1 a in absurd (cc)
+
 -- words that are refused name no file of options
-pub of_refused : (a : App) (words : List Text) (k : ErrorKind) → a ≡ devdry → (is_simple_and_free a ≡ true → (k ≡ kind.OutOfMemory) ⊎ IsAmong k (fault_of a words))
-    → (k ≡ kind.OutOfMemory → ⊥) → None ≡ options_in words
-of_refused a words k is refuses other = elim (refuses (ap is_simple_and_free is ∙ devdry_is_simple_and_free)) [
-  | inl memory ↦ absurd (other memory)
+pub of_refused : (a : App) (words : List Text) (k seen : ErrorKind) (m : Bool) → a ≡ devdry
+    → (is_simple_and_free a ≡ true → (k ≡ kind.OutOfMemory) ⊎ IsAmong k (fault_of a words)) → seen ≡ k → (IsTrue m ↔ (seen ≡ kind.OutOfMemory)) → m ≡ false
+    → None ≡ options_in words
+of_refused a words k seen m is refuses same iff fails = elim (refuses (ap is_simple_and_free is ∙ devdry_is_simple_and_free)) [
+  | inl memory ↦ absurd (not_memory m (seen ≡ kind.OutOfMemory) iff fails (same ∙ memory))
   | inr among ↦ none_among k (fault_of devdry words) (first_of (codes "options") (matches_in words)) (subst (λ x. IsAmong k (fault_of x words)) is among)
 ]
 

@@ -20,6 +20,10 @@ repeated_rule name = record (option_rule name) { action = Some Append }
 abbrev pub root_rule : Rule
 root_rule = record (option_rule (codes "root")) { short = Some 114 }
 
+-- `--with FILE`, any number of times
+abbrev pub added_rule : Rule
+added_rule = repeated_rule (codes "with")
+
 -- `-s`, `--strict`; the letter s has the number 115
 abbrev pub strict_rule : Rule
 strict_rule = record (flag_rule (codes "strict")) { short = Some 115 }
@@ -57,27 +61,26 @@ query_shape = with_rules (codes "query")
 -- [--links] [--udev] [--users FILE] [--groups FILE] [--stdin-name PATH] [FILE]..`
 abbrev pub verify_shape : Shape
 verify_shape = with_rules (codes "verify")
-    (option_rule (codes "options") ∷ root_rule ∷ repeated_rule (codes "with") ∷ strict_rule ∷ flag_rule (codes "all") ∷ option_rule (codes "format")
-    ∷ option_rule (codes "color") ∷ repeated_rule (codes "ignore") ∷ flag_rule (codes "no-summary") ∷ flag_rule (codes "no-style")
-    ∷ flag_rule (codes "lint") ∷ flag_rule (codes "links") ∷ flag_rule (codes "udev") ∷ option_rule (codes "users")
-    ∷ option_rule (codes "groups") ∷ option_rule (codes "stdin-name") ∷ files_rule ∷ [])
+    (option_rule (codes "options") ∷ root_rule ∷ added_rule ∷ strict_rule ∷ flag_rule (codes "all") ∷ option_rule (codes "format") ∷ option_rule (codes "color")
+    ∷ repeated_rule (codes "ignore") ∷ flag_rule (codes "no-summary") ∷ flag_rule (codes "no-style") ∷ flag_rule (codes "lint") ∷ flag_rule (codes "links")
+    ∷ flag_rule (codes "udev") ∷ option_rule (codes "users") ∷ option_rule (codes "groups") ∷ option_rule (codes "stdin-name") ∷ files_rule ∷ [])
 
 -- `events [--options FILE] [-r DIR] [--with FILE].. [--all] [--format FORMAT] [--sources] [--why FILE[:LINE]].. [--unused] [--questions] [--index FILE]
 -- [--udev] [FILE]..`
 abbrev pub events_shape : Shape
 events_shape = with_rules (codes "events")
-    (option_rule (codes "options") ∷ root_rule ∷ repeated_rule (codes "with") ∷ flag_rule (codes "all") ∷ option_rule (codes "format")
-    ∷ flag_rule (codes "sources") ∷ repeated_rule (codes "why") ∷ flag_rule (codes "unused") ∷ flag_rule (codes "questions") ∷ option_rule (codes "index")
+    (option_rule (codes "options") ∷ root_rule ∷ added_rule ∷ flag_rule (codes "all") ∷ option_rule (codes "format") ∷ flag_rule (codes "sources")
+    ∷ repeated_rule (codes "why") ∷ flag_rule (codes "unused") ∷ flag_rule (codes "questions") ∷ option_rule (codes "index")
     ∷ flag_rule (codes "udev") ∷ files_rule ∷ [])
 
 -- `files [--options FILE] [-r DIR] [--with FILE]..`
 abbrev pub files_shape : Shape
-files_shape = with_rules (codes "files") (option_rule (codes "options") ∷ root_rule ∷ repeated_rule (codes "with") ∷ [])
+files_shape = with_rules (codes "files") (option_rule (codes "options") ∷ root_rule ∷ added_rule ∷ [])
 
 -- `compare [--options FILE] [--with FILE].. [--all] [--format FORMAT] [--sources] [--index FILE] [--udev] [--rules] OLD NEW`
 abbrev pub compare_shape : Shape
 compare_shape = with_rules (codes "compare")
-    (option_rule (codes "options") ∷ repeated_rule (codes "with") ∷ flag_rule (codes "all") ∷ option_rule (codes "format") ∷ flag_rule (codes "sources")
+    (option_rule (codes "options") ∷ added_rule ∷ flag_rule (codes "all") ∷ option_rule (codes "format") ∷ flag_rule (codes "sources")
     ∷ option_rule (codes "index") ∷ flag_rule (codes "udev") ∷ flag_rule (codes "rules") ∷ required_rule (codes "OLD") ∷ required_rule (codes "NEW") ∷ [])
 
 -- `fmt [--options FILE] [--check] [--stdin-name PATH] FILE..`

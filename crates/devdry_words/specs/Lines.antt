@@ -1,7 +1,7 @@
 -- The line that the matches of a subcommand mean.
 use Rattle.std.specs.Prelude.{◌≡◌, ◌∷◌, ◌&&◌, ◌||◌, Bool, true, false, IfSome, if◌then◌else◌, List, [], Option, Some, None, find}
 use Rattle.std.specs.Prelude.{map, not, unwrap_or, codes}
-use Rattle.std.specs.Option.{option_map}
+use Rattle.std.specs.Option.{option_map, option_map_or}
 use Rattle.std.specs.Str.{bytes_eq}
 use Rattle.clap.specs.Words.{Row, Text, first_of}
 use Rattle.engine_sessions.specs.declared.line.AccountFile.{AccountFile}
@@ -42,7 +42,7 @@ format_named name = find (λ f. bytes_eq name (format_name f)) (Plain ∷ Gcc �
 
 -- the format that is asked for, plain if none is; none if the name is unknown
 abbrev pub format_of : List Row → Option Format
-format_of rows = format_named (unwrap_or (first_of (codes "format") rows) (codes "plain"))
+format_of rows = option_map_or format_named (first_of (codes "format") rows) (Some Plain)
 
 -- the name of when there are colors
 abbrev pub color_name : Color → Text
@@ -56,7 +56,7 @@ color_named name = find (λ c. bytes_eq name (color_name c)) (Auto ∷ Always �
 
 -- when colors are asked for, by the terminal if none are; none if the name is unknown
 abbrev pub color_of : List Row → Option Color
-color_of rows = color_named (unwrap_or (first_of (codes "color") rows) (codes "auto"))
+color_of rows = option_map_or color_named (first_of (codes "color") rows) (Some Auto)
 
 -- the name of the standard input as a file, `-` if it is given none
 abbrev pub input_name_of : List Row → Text
@@ -102,8 +102,13 @@ account_path false None own = None
 abbrev pub IsUnreadFile : Option (Text × Bool) → Option AccountFile → Type 0
 IsUnreadFile path file = (option_map (λ f. (f.path.now, f.of_root)) file ≡ path) × IfSome file (λ f. f.bytes ≡ [])
 
+-- whether all is asked for: by `--all`, by a check of everything, or where rules files or folders of them are compared, which are
+-- read like that
+abbrev pub asks_all_of : Verb → List Row → Bool
+asks_all_of verb rows = is_set_or_every verb (codes "all") rows || is_set (codes "rules") rows
+
 -- the line is that of the verb, below the root, with the added and the named files, and its other fields are the values of the
--- matches; all is also asked for by a check of everything, and where rules files or folders of them are compared
+-- matches
 pub record Reads (verb : Verb) (root : Text) (added named : List Text) (rows : List Row) (line : Line) : Type 0 where
   pub verb_is : line.verb ≡ verb
   pub root_is : line.root.now ≡ root
@@ -124,7 +129,7 @@ pub record Reads (verb : Verb) (root : Text) (added named : List Text) (rows : L
   pub check : line.check ≡ is_set (codes "check") rows
   pub format : line.format ≡ unwrap_or (format_of rows) Plain
   pub color : line.color ≡ unwrap_or (color_of rows) Auto
-  pub all : line.all ≡ (is_set_or_every verb (codes "all") rows || is_set (codes "rules") rows)
+  pub all : line.all ≡ asks_all_of verb rows
   pub ignored : map (λ c. c.now) line.ignored.items ≡ ignored_codes (texts_of (codes "ignore") rows)
   pub profile : line.profile ≡ profile_of verb rows
   pub users : IsUnreadFile (account_path (asks_every verb rows) (first_of (codes "users") rows) (codes "/etc/passwd")) line.users

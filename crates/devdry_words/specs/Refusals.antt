@@ -1,8 +1,8 @@
 -- Which of the words that clap takes `devdry` itself refuses, and what it says about them.
-use Rattle.std.specs.Prelude.{◌&&◌, ◌||◌, ◌++◌, List, [], ◌∷◌, Bool, Option, Some, None, if◌then◌else◌, find, is_some, nat_eq, not}
+use Rattle.std.specs.Prelude.{◌&&◌, ◌||◌, ◌++◌, List, [], ◌∷◌, Bool, Option, Some, None, if◌then◌else◌, find, is_some, map, nat_eq, not}
 use Rattle.std.specs.Prelude.{unwrap_or, codes, false, true}
 use Rattle.std.specs.List.{ends_with, list_any}
-use Rattle.std.specs.Option.{is_none}
+use Rattle.std.specs.Option.{is_none, option_map_or}
 use Rattle.std.specs.Str.{bytes_eq}
 use Rattle.clap.specs.Words.{Row, Text, first_of}
 use Rattle.text_bytes.specs.Kinds.{suffix_of}
@@ -23,11 +23,14 @@ use Rattle.devdry_words.specs.Values.{has_value, is_empty_text, is_set, text_of,
 abbrev pub names_input : List Row → Bool
 names_input rows = list_any is_input (texts_of (codes "FILE") rows)
 
--- the standard input is named as a file, and something else is read from it: the blocks of `events`, or modaliases; or it is to be one
--- of the rules files that `compare` compares
+-- the standard input is to be one of the rules files that `compare` compares
+abbrev pub compares_input : List Row → Bool
+compares_input rows = is_set (codes "rules") rows && (is_input (text_of (codes "OLD") rows) || is_input (text_of (codes "NEW") rows))
+
+-- the standard input is named as a file, and something else is read from it: the blocks of `events` and `compare`, or modaliases
 abbrev pub reads_twice : Text → List Row → Bool
-reads_twice name rows = names_input rows && (bytes_eq name (codes "events") || is_input (text_of (codes "MODALIAS") rows))
-    || is_set (codes "rules") rows && (is_input (text_of (codes "OLD") rows) || is_input (text_of (codes "NEW") rows))
+reads_twice name rows =
+    names_input rows && (bytes_eq name (codes "events") || is_input (text_of (codes "MODALIAS") rows)) || compares_input rows
 
 -- the standard input has a name as a file, and is not named as one
 abbrev pub lacks_input : List Row → Bool
@@ -50,14 +53,26 @@ adds_to_named rows = has_value (codes "with") rows && has_value (codes "FILE") r
 abbrev pub adds_to_rules : List Row → Bool
 adds_to_rules rows = has_value (codes "with") rows && is_set (codes "rules") rows
 
+-- a path ends as those of database files do
+abbrev pub is_of_database : Text → Bool
+is_of_database path = ends_with nat_eq path (suffix_of Hwdb)
+
+-- a path ends as those of rules files do
+abbrev pub is_of_rules : Text → Bool
+is_of_rules path = ends_with nat_eq path (suffix_of Rules)
+
 -- a file may be added at a path, by how the path ends: as those of rules do, or, if not only rules are read, as those of
 -- a database
 abbrev pub is_addable : Bool → Text → Bool
-is_addable rules_alone path = ends_with nat_eq path (suffix_of Rules) || (not rules_alone && ends_with nat_eq path (suffix_of Hwdb))
+is_addable rules_alone path = is_of_rules path || (not rules_alone && is_of_database path)
+
+-- the first of these paths at which none may be added
+abbrev pub first_unaddable : Bool → List Text → Option Text
+first_unaddable rules_alone paths = find (λ path. not (is_addable rules_alone path)) paths
 
 -- the first path at which a file is added that may not be, if there is one
 abbrev pub unaddable : Bool → List Row → Option Text
-unaddable rules_alone rows = find (λ path. not (is_addable rules_alone path)) (texts_of (codes "with") rows)
+unaddable rules_alone rows = first_unaddable rules_alone (texts_of (codes "with") rows)
 
 -- a file is added that is no rules file, and an index is named to be read in place of all files of the database
 abbrev pub adds_to_index : List Row → Bool
@@ -75,9 +90,13 @@ breaks_json rows = bytes_eq (text_of (codes "format") rows) (codes "json") && (i
 abbrev pub is_strict : Text → List Row → Bool
 is_strict name rows = bytes_eq name (codes "verify") && is_set (codes "strict") rows
 
+-- all is asked for
+abbrev pub asks_all : Text → List Row → Bool
+asks_all name rows = is_set (codes "all") rows || is_strict name rows
+
 -- all is asked for, or which files count, below a root that is given and empty
 abbrev pub lacks_root : Text → List Row → Bool
-lacks_root name rows = ((is_set (codes "all") rows || is_strict name rows) || bytes_eq name (codes "files")) && is_empty_text (codes "root") rows
+lacks_root name rows = (asks_all name rows || bytes_eq name (codes "files")) && is_empty_text (codes "root") rows
 
 -- one of the two roots that are compared is empty
 abbrev pub lacks_side : List Row → Bool
@@ -88,16 +107,20 @@ abbrev pub lacks_udev : Text → List Row → Bool
 lacks_udev name rows = (is_some (first_of (codes "users") rows) || is_some (first_of (codes "groups") rows))
     && not (is_set (codes "udev") rows || is_strict name rows)
 
--- there is a format, and answers can be written in it
-abbrev pub is_for_answers : Option Format → Bool
-is_for_answers (Some Plain) = true
-is_for_answers (Some Json) = true
-is_for_answers (Some Human) = true
+-- a subcommand of this name answers event blocks
+abbrev pub answers_blocks : Text → Bool
+answers_blocks name = bytes_eq name (codes "events") || bytes_eq name (codes "compare")
+
+-- answers can be written in the format
+abbrev pub is_for_answers : Format → Bool
+is_for_answers Plain = true
+is_for_answers Json = true
+is_for_answers Human = true
 is_for_answers _ = false
 
--- answers to event blocks are asked for in a format in which they can't be written, or in one that there is not
+-- answers are asked for in a format in which they can't be written, or in one that there is not
 abbrev pub lacks_answer_format : Text → List Row → Bool
-lacks_answer_format name rows = (bytes_eq name (codes "events") || bytes_eq name (codes "compare")) && not (is_for_answers (format_of rows))
+lacks_answer_format name rows = answers_blocks name && not (option_map_or is_for_answers (format_of rows) false)
 
 -- the first part of `--ignore` that may not be ignored, if there is one
 abbrev pub unknown_part : List Row → Option Text
@@ -146,37 +169,63 @@ refusal_of name rows = first_met (reasons name rows)
 abbrev pub invalid_value : Text → Text → Text
 invalid_value value following = codes "error: invalid value '" ++ value ++ following
 
--- how the texts end that are said about refused words
-abbrev pub for_more : Text
-for_more = codes "\n\nFor more information, try '--help'.\n"
+-- what is said after the name of an unknown format
+abbrev pub no_such_format : Text
+no_such_format = codes "' for '--format <FORMAT>'\n  [possible values: plain, gcc, github, gitlab, json, sarif, human]\n\nFor more information, try '--help'.\n"
 
--- what is said about matches that are refused, with the value that an argument does not take
+-- what is said after the name of a format in which no answer can be written
+abbrev pub no_answer_format : Text
+no_answer_format = codes "' for '--format <FORMAT>'\n  [possible values: plain, json, human]\n\nFor more information, try '--help'.\n"
+
+-- what is said after the name of what is no way to ask for colors
+abbrev pub no_such_color : Text
+no_such_color = codes "' for '--color <WHEN>'\n  [possible values: auto, always, never]\n\nFor more information, try '--help'.\n"
+
+-- what is said after a part of `--ignore` that is neither a code nor a class nor the word `comments`
+abbrev pub not_ignorable : Text
+not_ignorable =
+    codes "' for '--ignore <CODES>'\n  [possible values: " ++ known_codes ++ codes ", V, S, H, W, D, L, I, comments]\n\nFor more information, try '--help'.\n"
+
+-- what is said after the path of a file that `verify` may not add
+abbrev pub not_rules : Text
+not_rules = codes "' for '--with <FILE>': its name has to end in .rules\n\nFor more information, try '--help'.\n"
+
+-- what is said after the path of a file that no subcommand may add
+abbrev pub not_a_file : Text
+not_a_file = codes "' for '--with <FILE>': its name has to end in .rules or .hwdb\n\nFor more information, try '--help'.\n"
+
+-- what is said about matches that are refused
 abbrev pub said_of : Refusal → List Row → Text
 said_of TwoDatabases rows =
-    codes "error: the argument '--index <FILE>' cannot be used with '[FILE]...'\n\nUsage: devdry query --index <FILE> <MODALIAS>" ++ for_more
+    codes "error: the argument '--index <FILE>' cannot be used with '[FILE]...'\n\nUsage: devdry query --index <FILE> <MODALIAS>\n\n"
+    ++ codes "For more information, try '--help'.\n"
 said_of LinksAsRules rows =
     codes "error: the argument '--links' cannot be used with '--with <FILE>', '--udev', '--users <FILE>', '--groups <FILE>' or '--strict'\n\n"
-    ++ codes "Usage: devdry verify --links [FILE]..." ++ for_more
-said_of AddedToNamed rows = codes "error: the argument '--with <FILE>' cannot be used with '[FILE]...'" ++ for_more
-said_of AddedToRules rows = codes "error: the argument '--with <FILE>' cannot be used with '--rules'\n\nUsage: devdry compare --rules <OLD> <NEW>" ++ for_more
-said_of AddedToIndex rows = codes "error: the argument '--with <FILE>' cannot add to the database with '--index <FILE>'" ++ for_more
-said_of TwoAnswers rows = codes "error: the argument '--questions' cannot be used with '--sources', '--why <FILE[:LINE]>' or '--unused'\n\n"
-    ++ codes "Usage: devdry events --questions [FILE]..." ++ for_more
+    ++ codes "Usage: devdry verify --links [FILE]...\n\nFor more information, try '--help'.\n"
+said_of AddedToNamed rows = codes "error: the argument '--with <FILE>' cannot be used with '[FILE]...'\n\nFor more information, try '--help'.\n"
+said_of AddedToRules rows =
+    codes "error: the argument '--with <FILE>' cannot be used with '--rules'\n\nUsage: devdry compare --rules <OLD> <NEW>\n\n"
+    ++ codes "For more information, try '--help'.\n"
+said_of AddedToIndex rows =
+    codes "error: the argument '--with <FILE>' cannot add to the database with '--index <FILE>'\n\nFor more information, try '--help'.\n"
+said_of TwoAnswers rows =
+    codes "error: the argument '--questions' cannot be used with '--sources', '--why <FILE[:LINE]>' or '--unused'\n\n"
+    ++ codes "Usage: devdry events --questions [FILE]...\n\nFor more information, try '--help'.\n"
 said_of LinesBesideJson rows =
-    codes "error: the argument '--format=json' cannot be used with '--unused' or '--questions'\n\nUsage: devdry events --format=json [FILE]..." ++ for_more
-said_of InputTwice rows = codes "error: '-' can't be '[FILE]...' where the standard input has event blocks or modaliases" ++ for_more
-said_of UnreadInput rows = codes "error: the argument '--stdin-name <PATH>' needs '-' as '[FILE]...'" ++ for_more
-said_of EmptyRoot rows = codes "error: an empty value of '--root <DIR>' names no folder" ++ for_more
-said_of EmptySide rows = codes "error: an empty value of '<OLD>' or '<NEW>' names no folder; '/' is that of the running system" ++ for_more
-said_of NoUdev rows = codes "error: the arguments '--users <FILE>' and '--groups <FILE>' need '--udev' or '--strict'\n\n"
-    ++ codes "Usage: devdry verify --udev --users <FILE> --groups <FILE> [FILE]..." ++ for_more
-said_of UnknownFormat rows = invalid_value (text_of (codes "format") rows)
-    (codes "' for '--format <FORMAT>'\n  [possible values: plain, gcc, github, gitlab, json, sarif, human]" ++ for_more)
-said_of NoAnswerFormat rows = invalid_value (text_of (codes "format") rows)
-    (codes "' for '--format <FORMAT>'\n  [possible values: plain, json, human]" ++ for_more)
-said_of UnknownColor rows = invalid_value (text_of (codes "color") rows) (codes "' for '--color <WHEN>'\n  [possible values: auto, always, never]" ++ for_more)
-said_of UnknownPart rows = invalid_value (unwrap_or (unknown_part rows) [])
-    (codes "' for '--ignore <CODES>'\n  [possible values: " ++ known_codes ++ (codes ", V, S, H, W, D, L, I, comments]" ++ for_more))
-said_of NotRules rows = invalid_value (unwrap_or (unaddable true rows) []) (codes "' for '--with <FILE>': its name has to end in .rules" ++ for_more)
-said_of NotFile rows = invalid_value (unwrap_or (unaddable false rows) [])
-    (codes "' for '--with <FILE>': its name has to end in .rules or .hwdb" ++ for_more)
+    codes "error: the argument '--format=json' cannot be used with '--unused' or '--questions'\n\nUsage: devdry events --format=json [FILE]...\n\n"
+    ++ codes "For more information, try '--help'.\n"
+said_of InputTwice rows =
+    codes "error: '-' can't be '[FILE]...' where the standard input has event blocks or modaliases\n\nFor more information, try '--help'.\n"
+said_of UnreadInput rows = codes "error: the argument '--stdin-name <PATH>' needs '-' as '[FILE]...'\n\nFor more information, try '--help'.\n"
+said_of EmptyRoot rows = codes "error: an empty value of '--root <DIR>' names no folder\n\nFor more information, try '--help'.\n"
+said_of EmptySide rows =
+    codes "error: an empty value of '<OLD>' or '<NEW>' names no folder; '/' is that of the running system\n\nFor more information, try '--help'.\n"
+said_of NoUdev rows =
+    codes "error: the arguments '--users <FILE>' and '--groups <FILE>' need '--udev' or '--strict'\n\n"
+    ++ codes "Usage: devdry verify --udev --users <FILE> --groups <FILE> [FILE]...\n\nFor more information, try '--help'.\n"
+said_of UnknownFormat rows = invalid_value (text_of (codes "format") rows) no_such_format
+said_of NoAnswerFormat rows = invalid_value (text_of (codes "format") rows) no_answer_format
+said_of UnknownColor rows = invalid_value (text_of (codes "color") rows) no_such_color
+said_of UnknownPart rows = invalid_value (unwrap_or (unknown_part rows) []) not_ignorable
+said_of NotRules rows = invalid_value (unwrap_or (unaddable true rows) []) not_rules
+said_of NotFile rows = invalid_value (unwrap_or (unaddable false rows) []) not_a_file

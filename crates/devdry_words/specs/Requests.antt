@@ -17,14 +17,6 @@ subcommand_name Files = codes "files"
 subcommand_name Compare = codes "compare"
 subcommand_name Explain = codes "explain"
 
--- a name is that of a subcommand
-abbrev pub IsSubcommandName : Text → Type 0
-IsSubcommandName name = (s : Subcommand) × (subcommand_name s ≡ name)
-
--- words name a subcommand, with its matches
-abbrev pub NamesSubcommand : Option (Text × List Row) → Type 0
-NamesSubcommand asked = IsSomeAnd asked (λ p. IsSubcommandName p.0)
-
 -- the files that are added to those of the folders
 abbrev pub added_of : List Row → List Text
 added_of rows = texts_of (codes "with") rows

@@ -7,10 +7,16 @@ ghost use Rattle.devdry_words.specs.Built.{IsCommand};
 ghost use Rattle.devdry_words.specs.Commands.{compare_shape, devdry, events_shape, explain_shape, files_shape, fmt_shape, program as program_app, query_shape};
 ghost use Rattle.devdry_words.specs.Commands.{update_shape, verify_shape};
 
+use crate::added::{ADDED_AFTER, ADDED_FILES, ADDED_RULES, with_option};
 use crate::arguments::{
-    files_argument, flag, mended_argument, option, repeated, required, root_option, strict_flag,
+    all_flag, check_flag, code_argument, color_option, files_argument, format_option,
+    groups_option, ignore_option, index_option, links_flag, lint_flag, mended_argument,
+    modalias_argument, new_argument, no_style_flag, no_summary_flag, old_argument, options_option,
+    questions_flag, root_option, rules_flag, sources_flag, strict_flag, udev_flag, unused_flag,
+    users_option, why_option,
 };
 use crate::endings;
+use crate::piped::input_name_option;
 use clap::Command;
 use std::alloc::{AllocError, Global};
 
@@ -36,44 +42,6 @@ Examples:
   devdry fmt 60-mine.rules > mended.rules
   devdry explain V6
 ";
-
-const OPTIONS: &str = "File of options to put before these, one a line, as --lint or --ignore=S2";
-
-const ALL: &str = "Go on where a file can't be read, and fail where there is none";
-
-const COLORS: &str = "When messages for people are in colors: auto, always or never";
-
-const IGNORED: &str = "Leave out the messages of these codes, as V6,S; comments: as the files say";
-
-const INPUT_NAME: &str = "Name of the standard input, which is the FILE -";
-
-const SOURCES: &str = "Say where each line comes from";
-
-const INDEX: &str = "Index to read in place of the database's folders";
-
-const MODALIAS: &str = "Device to look up, by its modalias; -: those of the standard input";
-
-const ADDED_RULES: &str = "Rules file to read among those of the folders, by its name";
-
-const ADDED_FILES: &str = "Rules or database file to read among those of the folders, by its name";
-
-const ADDED_AFTER: &str = "Rules or database file to read among those of NEW, by its name";
-
-const NO_SUMMARY: &str = "Do not count the good and the bad files";
-
-const USERS: &str = "With --udev: users that OWNER may name, as in /etc/passwd";
-
-const GROUPS: &str = "With --udev: groups that GROUP may name, as in /etc/group";
-
-const WHY: &str = "Say what the rules of this file, or the one of this line, met";
-
-const UNUSED: &str = "Report, after the last answer, the rules that no block reached or met";
-
-const QUESTIONS: &str = "Print the commands that the blocks do not answer, in place of answers";
-
-const RULES: &str = "OLD and NEW are rules files, or folders of them";
-
-const CHECK: &str = "Only list the files that would change, with status 1";
 
 const DATABASE_FILES: &str = "Database files to read in place of the folders";
 
@@ -103,15 +71,15 @@ fn update_command<'a>(alloc: Global) -> Result<Command<'a>, AllocError>
     Command::new(alloc, "update")
         .about("Checks the files of the hardware database and writes its index")
         .after_help(endings::UPDATE)
-        .arg(option(alloc, "options", "FILE", OPTIONS))?
+        .arg(options_option(alloc))?
         .arg(root_option(alloc))?
         .arg(strict_flag(alloc, "Exit with status 1 if there is a message"))?
-        .arg(flag(alloc, "all", ALL))?
-        .arg(option(alloc, "format", "FORMAT", MESSAGE_FORMATS))?
-        .arg(option(alloc, "color", "WHEN", COLORS))?
-        .arg(repeated(alloc, "ignore", "CODES", IGNORED))?
-        .arg(flag(alloc, "lint", LINT_RECORDS))?
-        .arg(option(alloc, "stdin-name", "PATH", INPUT_NAME))?
+        .arg(all_flag(alloc))?
+        .arg(format_option(alloc, MESSAGE_FORMATS))?
+        .arg(color_option(alloc))?
+        .arg(ignore_option(alloc))?
+        .arg(lint_flag(alloc, LINT_RECORDS))?
+        .arg(input_name_option(alloc))?
         .arg(files_argument(alloc, DATABASE_FILES))
 }
 
@@ -123,13 +91,13 @@ fn query_command<'a>(alloc: Global) -> Result<Command<'a>, AllocError>
         .about("Prints the properties that the hardware database has for a device")
         .after_help(endings::QUERY)
         .override_usage("devdry query [OPTIONS] <MODALIAS> [FILE]...")
-        .arg(option(alloc, "options", "FILE", OPTIONS))?
+        .arg(options_option(alloc))?
         .arg(root_option(alloc))?
-        .arg(flag(alloc, "all", ALL))?
-        .arg(flag(alloc, "sources", SOURCES))?
-        .arg(option(alloc, "index", "FILE", INDEX))?
-        .arg(option(alloc, "stdin-name", "PATH", INPUT_NAME))?
-        .arg(required(alloc, "MODALIAS", MODALIAS))?
+        .arg(all_flag(alloc))?
+        .arg(sources_flag(alloc))?
+        .arg(index_option(alloc))?
+        .arg(input_name_option(alloc))?
+        .arg(modalias_argument(alloc))?
         .arg(files_argument(alloc, DATABASE_FILES))
 }
 
@@ -140,22 +108,22 @@ fn verify_command<'a>(alloc: Global) -> Result<Command<'a>, AllocError>
     Command::new(alloc, "verify")
         .about("Checks rules files")
         .after_help(endings::VERIFY)
-        .arg(option(alloc, "options", "FILE", OPTIONS))?
+        .arg(options_option(alloc))?
         .arg(root_option(alloc))?
-        .arg(repeated(alloc, "with", "FILE", ADDED_RULES))?
+        .arg(with_option(alloc, ADDED_RULES))?
         .arg(strict_flag(alloc, EVERY_CHECK))?
-        .arg(flag(alloc, "all", ALL))?
-        .arg(option(alloc, "format", "FORMAT", MESSAGE_FORMATS))?
-        .arg(option(alloc, "color", "WHEN", COLORS))?
-        .arg(repeated(alloc, "ignore", "CODES", IGNORED))?
-        .arg(flag(alloc, "no-summary", NO_SUMMARY))?
-        .arg(flag(alloc, "no-style", "Give no messages about style"))?
-        .arg(flag(alloc, "lint", LINT_RULES))?
-        .arg(flag(alloc, "links", "Check .link files in place of rules"))?
-        .arg(flag(alloc, "udev", "Read rules as udev itself reads them"))?
-        .arg(option(alloc, "users", "FILE", USERS))?
-        .arg(option(alloc, "groups", "FILE", GROUPS))?
-        .arg(option(alloc, "stdin-name", "PATH", INPUT_NAME))?
+        .arg(all_flag(alloc))?
+        .arg(format_option(alloc, MESSAGE_FORMATS))?
+        .arg(color_option(alloc))?
+        .arg(ignore_option(alloc))?
+        .arg(no_summary_flag(alloc))?
+        .arg(no_style_flag(alloc))?
+        .arg(lint_flag(alloc, LINT_RULES))?
+        .arg(links_flag(alloc))?
+        .arg(udev_flag(alloc, "Read rules as udev itself reads them"))?
+        .arg(users_option(alloc))?
+        .arg(groups_option(alloc))?
+        .arg(input_name_option(alloc))?
         .arg(files_argument(alloc, CHECKED_FILES))
 }
 
@@ -166,17 +134,17 @@ fn events_command<'a>(alloc: Global) -> Result<Command<'a>, AllocError>
     Command::new(alloc, "events")
         .about("Answers the event blocks of the standard input")
         .after_help(endings::EVENTS)
-        .arg(option(alloc, "options", "FILE", OPTIONS))?
+        .arg(options_option(alloc))?
         .arg(root_option(alloc))?
-        .arg(repeated(alloc, "with", "FILE", ADDED_FILES))?
-        .arg(flag(alloc, "all", ALL))?
-        .arg(option(alloc, "format", "FORMAT", ANSWER_FORMATS))?
-        .arg(flag(alloc, "sources", SOURCES))?
-        .arg(repeated(alloc, "why", "FILE[:LINE]", WHY))?
-        .arg(flag(alloc, "unused", UNUSED))?
-        .arg(flag(alloc, "questions", QUESTIONS))?
-        .arg(option(alloc, "index", "FILE", INDEX))?
-        .arg(flag(alloc, "udev", EVALUATE_AS_UDEV))?
+        .arg(with_option(alloc, ADDED_FILES))?
+        .arg(all_flag(alloc))?
+        .arg(format_option(alloc, ANSWER_FORMATS))?
+        .arg(sources_flag(alloc))?
+        .arg(why_option(alloc))?
+        .arg(unused_flag(alloc))?
+        .arg(questions_flag(alloc))?
+        .arg(index_option(alloc))?
+        .arg(udev_flag(alloc, EVALUATE_AS_UDEV))?
         .arg(files_argument(alloc, RULES_FILES))
 }
 
@@ -187,9 +155,9 @@ fn files_command<'a>(alloc: Global) -> Result<Command<'a>, AllocError>
     Command::new(alloc, "files")
         .about("Lists the files of the folders, and says which of them are read")
         .after_help(endings::FILES)
-        .arg(option(alloc, "options", "FILE", OPTIONS))?
+        .arg(options_option(alloc))?
         .arg(root_option(alloc))?
-        .arg(repeated(alloc, "with", "FILE", ADDED_FILES))
+        .arg(with_option(alloc, ADDED_FILES))
 }
 
 /// The subcommand `compare`.
@@ -199,16 +167,16 @@ fn compare_command<'a>(alloc: Global) -> Result<Command<'a>, AllocError>
     Command::new(alloc, "compare")
         .about("Tells where two systems answer the event blocks of the standard input differently")
         .after_help(endings::COMPARE)
-        .arg(option(alloc, "options", "FILE", OPTIONS))?
-        .arg(repeated(alloc, "with", "FILE", ADDED_AFTER))?
-        .arg(flag(alloc, "all", ALL))?
-        .arg(option(alloc, "format", "FORMAT", ANSWER_FORMATS))?
-        .arg(flag(alloc, "sources", SOURCES))?
-        .arg(option(alloc, "index", "FILE", INDEX))?
-        .arg(flag(alloc, "udev", EVALUATE_AS_UDEV))?
-        .arg(flag(alloc, "rules", RULES))?
-        .arg(required(alloc, "OLD", "Root of the system before"))?
-        .arg(required(alloc, "NEW", "Root of the system after"))
+        .arg(options_option(alloc))?
+        .arg(with_option(alloc, ADDED_AFTER))?
+        .arg(all_flag(alloc))?
+        .arg(format_option(alloc, ANSWER_FORMATS))?
+        .arg(sources_flag(alloc))?
+        .arg(index_option(alloc))?
+        .arg(udev_flag(alloc, EVALUATE_AS_UDEV))?
+        .arg(rules_flag(alloc))?
+        .arg(old_argument(alloc))?
+        .arg(new_argument(alloc))
 }
 
 /// The subcommand `fmt`.
@@ -218,9 +186,9 @@ fn fmt_command<'a>(alloc: Global) -> Result<Command<'a>, AllocError>
     Command::new(alloc, "fmt")
         .about("Mends commas and blanks in rules files")
         .after_help(endings::FMT)
-        .arg(option(alloc, "options", "FILE", OPTIONS))?
-        .arg(flag(alloc, "check", CHECK))?
-        .arg(option(alloc, "stdin-name", "PATH", INPUT_NAME))?
+        .arg(options_option(alloc))?
+        .arg(check_flag(alloc))?
+        .arg(input_name_option(alloc))?
         .arg(mended_argument(alloc))
 }
 
@@ -231,7 +199,7 @@ fn explain_command<'a>(alloc: Global) -> Result<Command<'a>, AllocError>
     Command::new(alloc, "explain")
         .about("Explains a message by its code, with a faulty file and the fixed one")
         .after_help(endings::EXPLAIN)
-        .arg(required(alloc, "CODE", "Code of a message, as V6"))
+        .arg(code_argument(alloc))
 }
 
 /// The command line without its subcommands.

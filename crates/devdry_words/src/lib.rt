@@ -8,6 +8,7 @@ mod added;
 mod arguments;
 mod commands;
 mod endings;
+mod ignored;
 mod laws;
 mod line_reading;
 mod options;

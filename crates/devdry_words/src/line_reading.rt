@@ -1,20 +1,22 @@
 //! The line that the matches of a parse mean.
 ghost use Rattle.std.specs.Prelude.{◌≡◌, [], IfOk, map};
 ghost use Rattle.clap.specs.Words.{first_of, found_of, rows_of};
-ghost use Rattle.devdry_words.specs.Lines.{IsUnreadFile, Reads, account_path, asks_every, color_of, format_of, is_set_or_every, profile_of};
+ghost use Rattle.devdry_words.specs.Lines.{IsUnreadFile, Reads, account_path, asks_every, color_named, color_of, format_named, format_of};
+ghost use Rattle.devdry_words.specs.Lines.{asks_all_of, is_set_or_every, profile_of};
 
-use crate::values::{is_given, text, texts, value, value_or};
+use crate::ignored::ignored_codes;
+use crate::piped::input_name_of;
+use crate::values::{is_given, text, texts, value};
 use clap::ArgMatches;
 use engine_sessions::{AccountFile, Color, Format, Line, Verb};
-use file_catalogue::ignored_codes;
 use std::alloc::{AllocError, Global};
 use text_bytes::{Bytes, Profile};
 
-/// The format that matches ask for, plain if they ask for none; `None` if the name is unknown.
-pub(crate) fn format_of(matches: &ArgMatches<'_>) -> Option<Format>
-    ensures { result ≡ format_of (rows_of (found_of matches.now)) }
+/// The format with a name, if there is one.
+fn format_named(name: &str) -> Option<Format>
+    ensures { result ≡ format_named name.now }
 {
-    match value_or(matches, "format", "plain") {
+    match name {
         "plain" => Some(Format::Plain),
         "gcc" => Some(Format::Gcc),
         "github" => Some(Format::Github),
@@ -26,15 +28,35 @@ pub(crate) fn format_of(matches: &ArgMatches<'_>) -> Option<Format>
     }
 }
 
-/// When matches ask for colors, by the terminal if they do not ask; `None` if the name is unknown.
-pub(crate) fn color_of(matches: &ArgMatches<'_>) -> Option<Color>
-    ensures { result ≡ color_of (rows_of (found_of matches.now)) }
+/// The format that matches ask for, plain if they ask for none; `None` if the name is unknown.
+pub(crate) fn format_of(matches: &ArgMatches<'_>) -> Option<Format>
+    ensures { result ≡ format_of (rows_of (found_of matches.now)) }
 {
-    match value_or(matches, "color", "auto") {
+    match value(matches, "format") {
+        Some(name) => format_named(name),
+        None => Some(Format::Plain),
+    }
+}
+
+/// When messages for people are in colors, by its name, if there is one.
+fn color_named(name: &str) -> Option<Color>
+    ensures { result ≡ color_named name.now }
+{
+    match name {
         "auto" => Some(Color::Auto),
         "always" => Some(Color::Always),
         "never" => Some(Color::Never),
         _ => None,
+    }
+}
+
+/// When matches ask for colors, by the terminal if they do not ask; `None` if the name is unknown.
+pub(crate) fn color_of(matches: &ArgMatches<'_>) -> Option<Color>
+    ensures { result ≡ color_of (rows_of (found_of matches.now)) }
+{
+    match value(matches, "color") {
+        Some(name) => color_named(name),
+        None => Some(Color::Auto),
     }
 }
 
@@ -98,8 +120,14 @@ fn account_file<'a>(
     }
 }
 
-/// The line of a verb below a root, with these added and named files, and otherwise with these matches. All is also asked for where
-/// rules files or folders of them are compared.
+/// Whether all is asked for: also where rules files or folders of them are compared.
+fn asks_all_of(verb: Verb, matches: &ArgMatches<'_>) -> bool
+    ensures { result ≡ asks_all_of verb (rows_of (found_of matches.now)) }
+{
+    is_given_or_every(verb, matches, "all") || is_given(matches, "rules")
+}
+
+/// The line of a verb below a root, with these added and named files, and otherwise with these matches.
 pub(crate) fn line_with<'a>(
     alloc: Global,
     verb: Verb,
@@ -116,7 +144,7 @@ pub(crate) fn line_with<'a>(
         root,
         files,
         added,
-        input_name: value_or(matches, "stdin-name", "-"),
+        input_name: input_name_of(matches),
         index: value(matches, "index"),
         strict: is_given(matches, "strict"),
         sources: is_given(matches, "sources"),
@@ -131,8 +159,8 @@ pub(crate) fn line_with<'a>(
         check: is_given(matches, "check"),
         format: format_of(matches).unwrap_or(Format::Plain),
         color: color_of(matches).unwrap_or(Color::Auto),
-        all: is_given_or_every(verb, matches, "all") | is_given(matches, "rules"),
-        ignored: ignored_codes(alloc, &texts(alloc, matches, "ignore")?)?,
+        all: asks_all_of(verb, matches),
+        ignored: ignored_codes(alloc, matches)?,
         profile: profile_of(verb, matches),
         users: account_file(alloc, verb, matches, "users", "/etc/passwd"),
         groups: account_file(alloc, verb, matches, "groups", "/etc/group"),

@@ -4,14 +4,15 @@
 //! errors the faults that the program distinguishes by their status.
 ghost use Rattle.std.specs.Prelude.{◌≡◌, ◌↔◌, ◌⊎◌, IsTrue, IfErr, IfOk, MatchResult, None, Ok, Err, [], map, string_bytes, true};
 ghost use Rattle.clap.specs.Words.{fault_of, found_of, kind_of, rows_of, subcommand_of, subcommand_rows_of, takes};
-ghost use Rattle.devdry_words.specs.Answers.{AnswersKind, AnswersMatches, AnswersWords, AsksForHelp};
+ghost use Rattle.devdry_words.specs.Answers.{AnswersWords, AsksForHelp};
 ghost use Rattle.devdry_words.specs.Commands.{devdry};
+ghost use Rattle.devdry_words.specs.Named.{AnswersKind, AnswersMatches, AnswersSubcommand, IsSubcommandName, NamesSubcommand};
 ghost use Rattle.devdry_words.specs.Refusals.{refusal_of};
-ghost use Rattle.devdry_words.specs.Requests.{AsksFor, IsRequestOf, IsSubcommandName, NamesSubcommand};
+ghost use Rattle.devdry_words.specs.Requests.{AsksFor, IsRequestOf};
 
 use crate::commands::devdry_command;
-use crate::refusals::{refusal_of, said_of};
-use crate::reporting::{explained, usage};
+use crate::refusals::{refusal_of, usage_of};
+use crate::reporting::explained;
 use crate::subcommands::{Subcommand, compare_request, files_request, run_request, subcommand_of};
 use crate::values::text;
 use clap::error::ErrorKind;
@@ -76,14 +77,15 @@ fn taken<'a>(alloc: Global, name: &str, matches: &ArgMatches<'a>) -> Result<Requ
 fn request_of<'a>(alloc: Global, matches: &ArgMatches<'a>) -> Result<Request<'a>, LineFault>
     requires { NamesSubcommand (subcommand_rows_of matches.now) }
     ensures request { IfOk result (IsRequestOf (subcommand_rows_of matches.now)) }
-    ensures fault { IfErr result (AnswersWords [] (subcommand_rows_of matches.now)) }
+    ensures fault { IfErr result (λ fault. (fault ≡ LineFault.Memory)
+        ⊎ AnswersSubcommand (subcommand_rows_of matches.now) fault) }
 {
     let Some((name, inner)) = matches.subcommand() else {
         prove!(false);
         return Err(LineFault::Memory);
     };
     match refusal_of(name, inner) {
-        Some(refusal) => Err(usage(said_of(alloc, refusal, inner))),
+        Some(refusal) => Err(usage_of(alloc, refusal, inner)),
         None => taken(alloc, name, inner),
     }
 }

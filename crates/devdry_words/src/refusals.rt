@@ -2,20 +2,23 @@
 //!
 //! A rule of one argument on another would cost what `clap` proves about the words that it takes, and so would
 //! values split at commas, so these few cases are looked at here.
-ghost use Rattle.std.specs.Prelude.{◌≡◌, IfOk, option_map, string_bytes};
+ghost use Rattle.std.specs.Option.{option_map_or};
+ghost use Rattle.std.specs.Prelude.{◌≡◌, false};
 ghost use Rattle.clap.specs.Words.{found_of, rows_of};
-ghost use Rattle.devdry_words.specs.Refusals.{added_reasons, asks_both, breaks_json, first_met, is_for_answers, is_strict, lacks_answer_format, lacks_root};
-ghost use Rattle.devdry_words.specs.Refusals.{lacks_side, lacks_udev, links_as_rules, names_two, refusal_of, said_of, unknown_part, value_reasons};
+ghost use Rattle.devdry_words.specs.Named.{IsUsageOf};
+ghost use Rattle.devdry_words.specs.Refusals.{added_reasons, answers_blocks, asks_all, asks_both, breaks_json, first_met, is_for_answers, is_strict};
+ghost use Rattle.devdry_words.specs.Refusals.{lacks_answer_format, lacks_root, lacks_side, lacks_udev, links_as_rules, names_two, refusal_of, said_of};
+ghost use Rattle.devdry_words.specs.Refusals.{value_reasons};
 
-use crate::added::{adds_to_index, adds_to_named, adds_to_rules, unaddable};
+use crate::added::{adds_to_index, adds_to_named, adds_to_rules, unaddable, unaddable_text};
+use crate::ignored::{unknown_part, unknown_text};
 use crate::line_reading::{color_of, format_of};
 use crate::piped::{lacks_input, reads_twice};
-use crate::reporting::{invalid_code, invalid_value};
-use crate::values::{every_value, has_value, is_empty, is_given, text, value};
+use crate::reporting::{usage, usage_on_code, usage_on_value};
+use crate::values::{has_value, is_empty, is_given, text, value};
 use clap::ArgMatches;
-use engine_sessions::Format;
-use file_catalogue::unknown_ignored;
-use std::alloc::{AllocError, Global};
+use engine_sessions::{Format, LineFault};
+use std::alloc::Global;
 
 const TWO_DATABASES: &str = "error: the argument '--index <FILE>' cannot be used with '[FILE]...'
 
@@ -208,12 +211,18 @@ fn is_strict(name: &str, matches: &ArgMatches<'_>) -> bool
     (name == "verify") & is_given(matches, "strict")
 }
 
+/// Whether the matches of a subcommand ask for all.
+fn asks_all(name: &str, matches: &ArgMatches<'_>) -> bool
+    ensures { result ≡ asks_all name.now (rows_of (found_of matches.now)) }
+{
+    is_given(matches, "all") | is_strict(name, matches)
+}
+
 /// Whether the matches of a subcommand ask for all, or which files count, below a root that is given and empty.
 fn lacks_root(name: &str, matches: &ArgMatches<'_>) -> bool
     ensures { result ≡ lacks_root name.now (rows_of (found_of matches.now)) }
 {
-    (is_given(matches, "all") | is_strict(name, matches) | (name == "files"))
-        & is_empty(matches, "root")
+    (asks_all(name, matches) | (name == "files")) & is_empty(matches, "root")
 }
 
 /// Whether a root that matches compare is empty.
@@ -231,28 +240,35 @@ fn lacks_udev(name: &str, matches: &ArgMatches<'_>) -> bool
         & !(is_given(matches, "udev") | is_strict(name, matches))
 }
 
-/// Whether there is a format, and answers can be written in it.
-fn is_for_answers(format: Option<Format>) -> bool
-    ensures { result ≡ is_for_answers format }
+/// Whether a subcommand answers event blocks.
+fn answers_blocks(name: &str) -> bool
+    ensures { result ≡ answers_blocks name.now }
 {
-    matches!(format, Some(Format::Plain | Format::Json | Format::Human))
+    (name == "events") | (name == "compare")
 }
 
-/// Whether matches ask for answers to event blocks in a format in which they can't be written, or in one that there is not.
+/// Whether answers can be written in a format.
+fn is_for_answers(format: Format) -> bool
+    ensures { result ≡ is_for_answers format }
+{
+    matches!(format, Format::Plain | Format::Json | Format::Human)
+}
+
+/// Whether there is a format, and answers can be written in it.
+fn has_answers(format: Option<Format>) -> bool
+    ensures { result ≡ option_map_or is_for_answers format false }
+{
+    match format {
+        Some(format) => is_for_answers(format),
+        None => false,
+    }
+}
+
+/// Whether matches ask for answers in a format in which they can't be written, or in one that there is not.
 fn lacks_answer_format(name: &str, matches: &ArgMatches<'_>) -> bool
     ensures { result ≡ lacks_answer_format name.now (rows_of (found_of matches.now)) }
 {
-    ((name == "events") | (name == "compare")) & !is_for_answers(format_of(matches))
-}
-
-/// The first part of `--ignore` that may not be ignored, if there is one.
-fn unknown_part<'a>(matches: &ArgMatches<'a>) -> Option<&'a str>
-    ensures { option_map (λ p. p.now) result ≡ unknown_part (rows_of (found_of matches.now)) }
-{
-    match every_value(matches, "ignore") {
-        Some(values) => unknown_ignored(values),
-        None => None,
-    }
+    answers_blocks(name) & !has_answers(format_of(matches))
 }
 
 /// Why a file may not be added for a subcommand, if one may not.
@@ -319,40 +335,34 @@ pub(crate) fn refusal_of(name: &str, matches: &ArgMatches<'_>) -> Option<Refusal
 }
 
 /// What is said about matches that are refused.
-pub(crate) fn said_of(
-    alloc: Global,
-    refusal: Refusal,
-    matches: &ArgMatches<'_>,
-) -> Result<String, AllocError>
-    ensures { IfOk result (λ said. string_bytes said ≡ said_of refusal (rows_of (found_of matches.now))) }
+pub(crate) fn usage_of(alloc: Global, refusal: Refusal, matches: &ArgMatches<'_>) -> LineFault
+    ensures { IsUsageOf (said_of refusal (rows_of (found_of matches.now))) result }
 {
     match refusal {
-        Refusal::TwoDatabases => String::from_str(alloc, TWO_DATABASES),
-        Refusal::LinksAsRules => String::from_str(alloc, LINKS_AS_RULES),
-        Refusal::AddedToNamed => String::from_str(alloc, ADDED_TO_NAMED),
-        Refusal::AddedToRules => String::from_str(alloc, ADDED_TO_RULES),
-        Refusal::AddedToIndex => String::from_str(alloc, ADDED_TO_INDEX),
-        Refusal::TwoAnswers => String::from_str(alloc, TWO_ANSWERS),
-        Refusal::LinesBesideJson => String::from_str(alloc, LINES_BESIDE_JSON),
-        Refusal::InputTwice => String::from_str(alloc, INPUT_TWICE),
-        Refusal::UnreadInput => String::from_str(alloc, UNREAD_INPUT),
-        Refusal::EmptyRoot => String::from_str(alloc, EMPTY_ROOT),
-        Refusal::EmptySide => String::from_str(alloc, EMPTY_SIDE),
-        Refusal::NoUdev => String::from_str(alloc, NO_UDEV),
-        Refusal::UnknownFormat => invalid_value(alloc, text(matches, "format"), NO_SUCH_FORMAT),
-        Refusal::NoAnswerFormat => invalid_value(alloc, text(matches, "format"), NO_ANSWER_FORMAT),
-        Refusal::UnknownColor => invalid_value(alloc, text(matches, "color"), NO_SUCH_COLOR),
-        Refusal::UnknownPart => invalid_code(
+        Refusal::TwoDatabases => usage(alloc, TWO_DATABASES),
+        Refusal::LinksAsRules => usage(alloc, LINKS_AS_RULES),
+        Refusal::AddedToNamed => usage(alloc, ADDED_TO_NAMED),
+        Refusal::AddedToRules => usage(alloc, ADDED_TO_RULES),
+        Refusal::AddedToIndex => usage(alloc, ADDED_TO_INDEX),
+        Refusal::TwoAnswers => usage(alloc, TWO_ANSWERS),
+        Refusal::LinesBesideJson => usage(alloc, LINES_BESIDE_JSON),
+        Refusal::InputTwice => usage(alloc, INPUT_TWICE),
+        Refusal::UnreadInput => usage(alloc, UNREAD_INPUT),
+        Refusal::EmptyRoot => usage(alloc, EMPTY_ROOT),
+        Refusal::EmptySide => usage(alloc, EMPTY_SIDE),
+        Refusal::NoUdev => usage(alloc, NO_UDEV),
+        Refusal::UnknownFormat => usage_on_value(alloc, text(matches, "format"), NO_SUCH_FORMAT),
+        Refusal::NoAnswerFormat => {
+            usage_on_value(alloc, text(matches, "format"), NO_ANSWER_FORMAT)
+        }
+        Refusal::UnknownColor => usage_on_value(alloc, text(matches, "color"), NO_SUCH_COLOR),
+        Refusal::UnknownPart => usage_on_code(
             alloc,
-            unknown_part(matches).unwrap_or(""),
+            unknown_text(matches),
             "' for '--ignore <CODES>'\n  [possible values: ",
             ", V, S, H, W, D, L, I, comments]\n\nFor more information, try '--help'.\n",
         ),
-        Refusal::NotRules => {
-            invalid_value(alloc, unaddable(true, matches).unwrap_or(""), NOT_RULES)
-        }
-        Refusal::NotFile => {
-            invalid_value(alloc, unaddable(false, matches).unwrap_or(""), NOT_A_FILE)
-        }
+        Refusal::NotRules => usage_on_value(alloc, unaddable_text(true, matches), NOT_RULES),
+        Refusal::NotFile => usage_on_value(alloc, unaddable_text(false, matches), NOT_A_FILE),
     }
 }

@@ -1,7 +1,6 @@
 //! The faults that `devdry` itself reports, each with its text.
 ghost use Rattle.std.specs.Prelude.{◌≡◌, ◌++◌, IfOk, string_bytes};
-ghost use Rattle.clap.specs.Words.{Text};
-ghost use Rattle.devdry_words.specs.Answers.{Explains, IsHelpOf, IsUsageOf};
+ghost use Rattle.devdry_words.specs.Named.{Explains, IsHelpWith, IsUsageOf};
 ghost use Rattle.devdry_words.specs.Refusals.{invalid_value};
 ghost use Rattle.file_catalogue.specs.Catalogue.{known_codes};
 
@@ -11,7 +10,7 @@ use std::alloc::{AllocError, Global};
 
 /// Help with this text.
 fn help(alloc: Global, text: &str) -> LineFault
-    ensures { IsHelpOf text.now result }
+    ensures { IsHelpWith (λ said. said ≡ text.now) result }
 {
     match String::from_str(alloc, text) {
         Ok(text) => LineFault::Help(text),
@@ -19,22 +18,18 @@ fn help(alloc: Global, text: &str) -> LineFault
     }
 }
 
-/// Usage with a text, for which memory may have run out.
-pub(crate) fn usage(text: Result<String, AllocError>) -> LineFault
-    ensures { (said : Text) → IfOk text (λ text. string_bytes text ≡ said) → IsUsageOf said result }
+/// Usage with this text.
+pub(crate) fn usage(alloc: Global, text: &str) -> LineFault
+    ensures { IsUsageOf text.now result }
 {
-    match text {
+    match String::from_str(alloc, text) {
         Ok(text) => LineFault::Usage(text),
         Err(_) => LineFault::Memory,
     }
 }
 
-/// The text on a value that its argument does not take, with what follows the value.
-pub(crate) fn invalid_value(
-    alloc: Global,
-    value: &str,
-    following: &str,
-) -> Result<String, AllocError>
+/// The text on a value that its argument does not take.
+fn invalid_value(alloc: Global, value: &str, following: &str) -> Result<String, AllocError>
     ensures { IfOk result (λ text. string_bytes text ≡ invalid_value value.now following.now) }
 {
     let mut text = String::from_str(alloc, "error: invalid value '")?;
@@ -43,19 +38,34 @@ pub(crate) fn invalid_value(
     Ok(text)
 }
 
-/// The text on a value that is not a code, with all codes between the texts that follow the value.
-pub(crate) fn invalid_code(
-    alloc: Global,
-    value: &str,
-    before: &str,
-    after: &str,
-) -> Result<String, AllocError>
-    ensures { IfOk result (λ text. string_bytes text ≡ invalid_value value.now (before.now ++ known_codes ++ after.now)) }
+/// Usage on a value that its argument does not take, with what follows the value.
+pub(crate) fn usage_on_value(alloc: Global, value: &str, following: &str) -> LineFault
+    ensures { IsUsageOf (invalid_value value.now following.now) result }
 {
-    let mut text = invalid_value(alloc, value, before)?;
+    match invalid_value(alloc, value, following) {
+        Ok(text) => LineFault::Usage(text),
+        Err(_) => LineFault::Memory,
+    }
+}
+
+/// The codes of all remarks between two texts.
+fn codes_between(alloc: Global, before: &str, after: &str) -> Result<String, AllocError>
+    ensures { IfOk result (λ text. string_bytes text ≡ before.now ++ known_codes ++ after.now) }
+{
+    let mut text = String::from_str(alloc, before)?;
     text.push_str(known_codes(alloc)?.as_str())?;
     text.push_str(after)?;
     Ok(text)
+}
+
+/// Usage on a value that is not a code, with all codes between the texts that follow the value.
+pub(crate) fn usage_on_code(alloc: Global, value: &str, before: &str, after: &str) -> LineFault
+    ensures { IsUsageOf (invalid_value value.now (before.now ++ known_codes ++ after.now)) result }
+{
+    match codes_between(alloc, before, after) {
+        Ok(following) => usage_on_value(alloc, value, following.as_str()),
+        Err(_) => LineFault::Memory,
+    }
 }
 
 /// The section on the message of a code, as help, or usage that lists the codes.
@@ -64,11 +74,11 @@ pub(crate) fn explained(alloc: Global, code: &str) -> LineFault
 {
     match explanation(code.as_bytes()) {
         Some(section) => help(alloc, section),
-        None => usage(invalid_code(
+        None => usage_on_code(
             alloc,
             code,
             "' for '<CODE>'\n  [possible values: ",
             "]\n\nFor more information, try '--help'.\n",
-        )),
+        ),
     }
 }

@@ -2,7 +2,8 @@
 ghost use Rattle.std.specs.Prelude.{◌≡◌, IfOk, MatchResult, codes, map};
 ghost use Rattle.clap.specs.Words.{found_of, rows_of};
 ghost use Rattle.devdry_words.specs.Lines.{name_of};
-ghost use Rattle.devdry_words.specs.Requests.{AsksFor, IsSubcommandName, side_files, side_root, subcommand_name};
+ghost use Rattle.devdry_words.specs.Named.{IsSubcommandName};
+ghost use Rattle.devdry_words.specs.Requests.{AsksFor, side_files, side_root, subcommand_name};
 
 use crate::line_reading::line_with;
 use crate::piped::files_of;

@@ -2,7 +2,7 @@
 //!
 //! An argument that a subcommand does not take has no value there, so that the same questions can be asked of the
 //! matches of each.
-ghost use Rattle.std.specs.Prelude.{◌≡◌, IfOk, map, option_map, unwrap_or};
+ghost use Rattle.std.specs.Prelude.{◌≡◌, IfOk, map, option_map};
 ghost use Rattle.clap.specs.Words.{all_of, first_of, found_of, rows_of};
 ghost use Rattle.devdry_words.specs.Values.{has_value, is_empty_text, is_set, text_of, texts_of};
 
@@ -16,21 +16,14 @@ pub(crate) fn value<'a>(matches: &ArgMatches<'a>, id: &str) -> Option<&'a str>
     matches.get_str(id)
 }
 
-/// The value of an argument, or another text if it was not given.
-pub(crate) fn value_or<'a>(matches: &ArgMatches<'a>, id: &str, other: &'a str) -> &'a str
-    ensures { result.now ≡ unwrap_or (first_of id.now (rows_of (found_of matches.now))) other.entry.now }
-{
-    match value(matches, id) {
-        Some(text) => text,
-        None => other,
-    }
-}
-
 /// The value of an argument, empty if it was not given.
 pub(crate) fn text<'a>(matches: &ArgMatches<'a>, id: &str) -> &'a str
     ensures { result.now ≡ text_of id.now (rows_of (found_of matches.now)) }
 {
-    value_or(matches, id, "")
+    match value(matches, id) {
+        Some(text) => text,
+        None => "",
+    }
 }
 
 /// Whether a flag was given.

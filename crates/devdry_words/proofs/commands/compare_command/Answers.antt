@@ -11,13 +11,13 @@ returns c =
       shape_is = ap shape_of_fields c.after_help.ensures ∙ ap shape_of_fields c.about.ensures ∙ ap (λ (x : App). x.top) c.new.ensures.app;
       is_local = ap (λ f. f.has_globals) c.after_help.ensures ∙ ap (λ f. f.has_globals) c.about.ensures ∙ c.new.ensures.local;
     } in
-    let first = one_more _ _ _ _ _ start c.option.ensures c.in_ok-arg.ensures in
-    let second = one_more _ _ _ _ _ first c.repeated.ensures c.in_ok-arg-2.ensures in
-    let third = one_more _ _ _ _ _ second c.flag.ensures c.in_ok-arg-3.ensures in
-    let fourth = one_more _ _ _ _ _ third c.option-2.ensures c.in_ok-arg-4.ensures in
-    let fifth = one_more _ _ _ _ _ fourth c.flag-2.ensures c.in_ok-arg-5.ensures in
-    let sixth = one_more _ _ _ _ _ fifth c.option-3.ensures c.in_ok-arg-6.ensures in
-    let seventh = one_more _ _ _ _ _ sixth c.flag-3.ensures c.in_ok-arg-7.ensures in
-    let eighth = one_more _ _ _ _ _ seventh c.flag-4.ensures c.in_ok-arg-8.ensures in
-    let ninth = one_more _ _ _ _ _ eighth c.required.ensures c.in_ok-arg-9.ensures in
-    IfOk-weaker c.arg-10.result _ _ (λ m h. one_more _ _ _ _ _ ninth c.required-2.ensures h) c.arg-10.ensures
+    let first = one_more _ _ _ _ _ start c.options_option.ensures c.in_ok-arg.ensures in
+    let second = one_more _ _ _ _ _ first c.with_option.ensures c.in_ok-arg-2.ensures in
+    let third = one_more _ _ _ _ _ second c.all_flag.ensures c.in_ok-arg-3.ensures in
+    let fourth = one_more _ _ _ _ _ third c.format_option.ensures c.in_ok-arg-4.ensures in
+    let fifth = one_more _ _ _ _ _ fourth c.sources_flag.ensures c.in_ok-arg-5.ensures in
+    let sixth = one_more _ _ _ _ _ fifth c.index_option.ensures c.in_ok-arg-6.ensures in
+    let seventh = one_more _ _ _ _ _ sixth c.udev_flag.ensures c.in_ok-arg-7.ensures in
+    let eighth = one_more _ _ _ _ _ seventh c.rules_flag.ensures c.in_ok-arg-8.ensures in
+    let ninth = one_more _ _ _ _ _ eighth c.old_argument.ensures c.in_ok-arg-9.ensures in
+    IfOk-weaker c.arg-10.result _ _ (λ m h. one_more _ _ _ _ _ ninth c.new_argument.ensures h) c.arg-10.ensures

@@ -11,4 +11,4 @@ returns c =
       shape_is = ap shape_of_fields c.after_help.ensures ∙ ap shape_of_fields c.about.ensures ∙ ap (λ (x : App). x.top) c.new.ensures.app;
       is_local = ap (λ f. f.has_globals) c.after_help.ensures ∙ ap (λ f. f.has_globals) c.about.ensures ∙ c.new.ensures.local;
     } in
-    IfOk-weaker c.arg.result _ _ (λ m h. one_more _ _ _ _ _ start c.required.ensures h) c.arg.ensures
+    IfOk-weaker c.arg.result _ _ (λ m h. one_more _ _ _ _ _ start c.code_argument.ensures h) c.arg.ensures

@@ -11,11 +11,11 @@ returns c =
       shape_is = ap shape_of_fields c.override_usage.ensures ∙ ap shape_of_fields c.after_help.ensures ∙ ap shape_of_fields c.about.ensures ∙ ap (λ (x : App). x.top) c.new.ensures.app;
       is_local = ap (λ f. f.has_globals) c.override_usage.ensures ∙ ap (λ f. f.has_globals) c.after_help.ensures ∙ ap (λ f. f.has_globals) c.about.ensures ∙ c.new.ensures.local;
     } in
-    let first = one_more _ _ _ _ _ start c.option.ensures c.in_ok-arg.ensures in
+    let first = one_more _ _ _ _ _ start c.options_option.ensures c.in_ok-arg.ensures in
     let second = one_more _ _ _ _ _ first c.root_option.ensures c.in_ok-arg-2.ensures in
-    let third = one_more _ _ _ _ _ second c.flag.ensures c.in_ok-arg-3.ensures in
-    let fourth = one_more _ _ _ _ _ third c.flag-2.ensures c.in_ok-arg-4.ensures in
-    let fifth = one_more _ _ _ _ _ fourth c.option-2.ensures c.in_ok-arg-5.ensures in
-    let sixth = one_more _ _ _ _ _ fifth c.option-3.ensures c.in_ok-arg-6.ensures in
-    let seventh = one_more _ _ _ _ _ sixth c.required.ensures c.in_ok-arg-7.ensures in
+    let third = one_more _ _ _ _ _ second c.all_flag.ensures c.in_ok-arg-3.ensures in
+    let fourth = one_more _ _ _ _ _ third c.sources_flag.ensures c.in_ok-arg-4.ensures in
+    let fifth = one_more _ _ _ _ _ fourth c.index_option.ensures c.in_ok-arg-5.ensures in
+    let sixth = one_more _ _ _ _ _ fifth c.input_name_option.ensures c.in_ok-arg-6.ensures in
+    let seventh = one_more _ _ _ _ _ sixth c.modalias_argument.ensures c.in_ok-arg-7.ensures in
     IfOk-weaker c.arg-8.result _ _ (λ m h. one_more _ _ _ _ _ seventh c.files_argument.ensures h) c.arg-8.ensures

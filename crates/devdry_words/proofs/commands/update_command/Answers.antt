@@ -11,13 +11,13 @@ returns c =
       shape_is = ap shape_of_fields c.after_help.ensures ∙ ap shape_of_fields c.about.ensures ∙ ap (λ (x : App). x.top) c.new.ensures.app;
       is_local = ap (λ f. f.has_globals) c.after_help.ensures ∙ ap (λ f. f.has_globals) c.about.ensures ∙ c.new.ensures.local;
     } in
-    let first = one_more _ _ _ _ _ start c.option.ensures c.in_ok-arg.ensures in
+    let first = one_more _ _ _ _ _ start c.options_option.ensures c.in_ok-arg.ensures in
     let second = one_more _ _ _ _ _ first c.root_option.ensures c.in_ok-arg-2.ensures in
     let third = one_more _ _ _ _ _ second c.strict_flag.ensures c.in_ok-arg-3.ensures in
-    let fourth = one_more _ _ _ _ _ third c.flag.ensures c.in_ok-arg-4.ensures in
-    let fifth = one_more _ _ _ _ _ fourth c.option-2.ensures c.in_ok-arg-5.ensures in
-    let sixth = one_more _ _ _ _ _ fifth c.option-3.ensures c.in_ok-arg-6.ensures in
-    let seventh = one_more _ _ _ _ _ sixth c.repeated.ensures c.in_ok-arg-7.ensures in
-    let eighth = one_more _ _ _ _ _ seventh c.flag-2.ensures c.in_ok-arg-8.ensures in
-    let ninth = one_more _ _ _ _ _ eighth c.option-4.ensures c.in_ok-arg-9.ensures in
+    let fourth = one_more _ _ _ _ _ third c.all_flag.ensures c.in_ok-arg-4.ensures in
+    let fifth = one_more _ _ _ _ _ fourth c.format_option.ensures c.in_ok-arg-5.ensures in
+    let sixth = one_more _ _ _ _ _ fifth c.color_option.ensures c.in_ok-arg-6.ensures in
+    let seventh = one_more _ _ _ _ _ sixth c.ignore_option.ensures c.in_ok-arg-7.ensures in
+    let eighth = one_more _ _ _ _ _ seventh c.lint_flag.ensures c.in_ok-arg-8.ensures in
+    let ninth = one_more _ _ _ _ _ eighth c.input_name_option.ensures c.in_ok-arg-9.ensures in
     IfOk-weaker c.arg-10.result _ _ (λ m h. one_more _ _ _ _ _ ninth c.files_argument.ensures h) c.arg-10.ensures

@@ -139,7 +139,8 @@ fn nearest_host_stop(
     above: Option<&Member<'_>>,
 ) -> Result<Stop, AllocError>
     ensures { IfOk result (λ stop. stop
-        ≡ option_map_or (λ host. host_stop place count (last_component host.path) (beside_host host (option_copied above.entry))) (option_copied host.entry) (ending true false [])) }
+        ≡ option_map_or (λ host. host_stop place count (last_component host.path) (beside_host host (option_copied above.entry)))
+        (option_copied host.entry) (ending true false [])) }
 {
     let Some(host) = host else {
         return Ok(Stop::ending(true, false, OwnedTexts::new(alloc)));

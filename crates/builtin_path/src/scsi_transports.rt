@@ -117,7 +117,8 @@ fn target_stop(
     target: &[u8],
 ) -> Result<Stop, AllocError>
     ensures { IfOk result (λ stop. stop
-        ≡ portal_stop member.now target.now (portal_attribute (codes "persistent_address") session.now) (portal_attribute (codes "persistent_port") session.now)) }
+        ≡ portal_stop member.now target.now (portal_attribute (codes "persistent_address") session.now)
+        (portal_attribute (codes "persistent_port") session.now)) }
 {
     let address = portal_attribute(alloc, b"persistent_address", session)?;
     let port = portal_attribute(alloc, b"persistent_port", session)?;

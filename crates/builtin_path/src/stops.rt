@@ -69,8 +69,7 @@ pub(crate) fn needed(alloc: Global, name: &[u8]) -> Result<OwnedTexts, AllocErro
     Ok(needs)
 }
 
-/// The way ends at a device with a known transport, as a name is not reported; `parent` says whether it is a known
-/// parent.
+/// The way ends at a device with a known transport, as a name is not reported; `parent` says whether it is a known parent.
 pub(crate) fn lost(alloc: Global, name: &[u8], parent: bool) -> Result<Stop, AllocError>
     ensures { IfOk result (λ stop. stop ≡ ending true parent (name.now ∷ [])) }
 {

@@ -99,7 +99,8 @@ fn port_stop(
     root: &Member<'_>,
     count: usize,
 ) -> Result<Stop, AllocError>
-    ensures { IfOk result (λ stop. stop ≡ record (adding (port_start (revision_of root.now) ++ port.now) true false count) { needs = revision_needs root.now }) }
+    ensures { IfOk result (λ stop. stop
+        ≡ record (adding (port_start (revision_of root.now) ++ port.now) true false count) { needs = revision_needs root.now }) }
 {
     let mut part = Vec::from_slice(alloc, port_start(revision_of(root)))?;
     part.extend_from_slice(port)?;
@@ -109,8 +110,7 @@ fn port_stop(
     Ok(stop)
 }
 
-/// What a device of subsystem usb adds: a device or an interface at a port adds the port, and the devices of USB above
-/// it are skipped.
+/// What a device of subsystem usb adds: a device or an interface at a port adds the port, and the devices of USB above it are skipped.
 #[tactic(auto, unfolding(crate::specs::Usb::usb_stop))]
 pub(crate) fn usb_stop(
     alloc: Global,

@@ -69,8 +69,7 @@ ignore_at line scope column text = record {
   code = code_in text;
 }
 
--- texts of a comment in this line, one after another with a byte between them, the first of which begins in this
--- column
+-- texts of a comment in this line, one after another with a byte between them, the first of which begins in this column
 abbrev pub ignores_at : ℕ → Scope → ℕ → List Text → List Ignore
 ignores_at line scope column [] = []
 ignores_at line scope column (text ∷ texts) =

@@ -115,7 +115,8 @@ lines_told asked name names a (s ∷ silent) lines =
 -- what is said of lines, below rules that leave something
 abbrev pub lines_said : Asked → Text → Option FileNames → RulesAbove → List (Reading × Landing) → List DiagnosticValue
 lines_said asked name names a [] = []
-lines_said asked name names a (x ∷ lines) = line_said asked name (lints_at asked.profile names a x) x ++ lines_said asked name names (above_told names a x) lines
+lines_said asked name names a (x ∷ lines) =
+    line_said asked name (lints_at asked.profile names a x) x ++ lines_said asked name names (above_told names a x) lines
 
 -- what is said of a line that is open at the end of its file
 abbrev pub open_said : Text → Option ℕ → List DiagnosticValue

@@ -10,8 +10,7 @@ use engine_formats::Diagnostic;
 use std::alloc::{AllocError, Global};
 use std::collections::VecDeque;
 
-/// Diagnostics with others merged in by line: each of the others comes after all diagnostics for its line or for
-/// one before it.
+/// Diagnostics with others merged in by line: each of the others comes after all diagnostics for its line or for one before it.
 pub(crate) fn merged<'r>(
     alloc: Global,
     found: Vec<Diagnostic<'r>>,
